@@ -1,0 +1,288 @@
+//! Times the library and the Rust on the same inputs, turn by turn in one run: `bench ROUNDS`. A line has the median time of each, the
+//! median of the rounds' ratios, and the ratios between which eight rounds in ten lie. Below 1 the library is the faster.
+
+use drivers::grid::{near_identity, Grid, Pose, POSE_FLOATS};
+use drivers::oracle::{flat, iso, views_of};
+use drivers::stream::{pose_command, size_command, solve_command};
+use random::Random;
+use std::hint::black_box;
+use vision_calibration_core::Iso3;
+use vision_calibration_linear::extrinsics::{average_isometries, estimate_extrinsics_from_cam_target_poses};
+
+/// Nanoseconds that this thread has had of a processor: what else the machine does meanwhile is not counted.
+fn clock() -> u64 {
+    #[repr(C)]
+    struct Timespec {
+        seconds: i64,
+        nanoseconds: i64,
+    }
+    extern "C" {
+        fn clock_gettime(clock: i32, time: *mut Timespec) -> i32;
+    }
+    const CLOCK_THREAD_CPUTIME_ID: i32 = 3;
+    let mut time = Timespec { seconds: 0, nanoseconds: 0 };
+    assert_eq!(unsafe { clock_gettime(CLOCK_THREAD_CPUTIME_ID, &mut time) }, 0);
+    time.seconds as u64 * 1_000_000_000 + time.nanoseconds as u64
+}
+
+/// The time of one round of either side, in nanoseconds.
+const ROUND: u64 = 1_000_000;
+
+/// How often the work fits into a round.
+fn turns(work: &mut dyn FnMut()) -> u32 {
+    let mut turns = 1;
+    loop {
+        let start = clock();
+        for _ in 0..turns {
+            work();
+        }
+        if clock() - start > ROUND / 2 {
+            return turns;
+        }
+        turns *= 2;
+    }
+}
+
+/// Nanoseconds for one piece of the work.
+fn time(turns: u32, pieces: usize, work: &mut dyn FnMut()) -> f64 {
+    let start = clock();
+    for _ in 0..turns {
+        work();
+    }
+    (clock() - start) as f64 / turns as f64 / pieces as f64
+}
+
+/// Keeps a value from being computed for nothing.
+fn keep<T>(value: T) {
+    black_box(&value);
+}
+
+fn at(sorted: &[f64], part: f64) -> f64 {
+    sorted[((sorted.len() - 1) as f64 * part).round() as usize]
+}
+
+fn sorted(mut numbers: Vec<f64>) -> Vec<f64> {
+    numbers.sort_by(f64::total_cmp);
+    numbers
+}
+
+/// Both sides, turn by turn, and the line of the table. A piece is what the times are given for.
+fn compare(rounds: usize, what: &str, pieces: usize, mut ours: impl FnMut(), mut rust: impl FnMut()) {
+    let (our_turns, rust_turns) = (turns(&mut ours), turns(&mut rust));
+    let (mut our_times, mut rust_times, mut ratios) = (vec![], vec![], vec![]);
+    for round in 0..rounds {
+        let (a, b) = if round % 2 == 0 {
+            let a = time(our_turns, pieces, &mut ours);
+            (a, time(rust_turns, pieces, &mut rust))
+        } else {
+            let b = time(rust_turns, pieces, &mut rust);
+            (time(our_turns, pieces, &mut ours), b)
+        };
+        our_times.push(a);
+        rust_times.push(b);
+        ratios.push(a / b);
+    }
+    let ratios = sorted(ratios);
+    println!(
+        "| {what} | {} | {} | {:.2} | {:.2} to {:.2} |",
+        nanoseconds(at(&sorted(our_times), 0.5)),
+        nanoseconds(at(&sorted(rust_times), 0.5)),
+        at(&ratios, 0.5),
+        at(&ratios, 0.1),
+        at(&ratios, 0.9),
+    );
+}
+
+fn nanoseconds(n: f64) -> String {
+    if n < 100.0 {
+        format!("{n:.1} ns")
+    } else if n < 10_000.0 {
+        format!("{n:.0} ns")
+    } else {
+        format!("{:.1} µs", n / 1000.0)
+    }
+}
+
+fn estimate(rounds: usize, what: &str, grid: &Grid) {
+    let views = views_of(grid);
+    let reference = grid.reference as usize;
+    let mut transforms = vec![0.0; grid.first_room];
+    let mut chains = vec![0; grid.second_room];
+    compare(
+        rounds,
+        what,
+        1,
+        || {
+            let grid = black_box(grid);
+            let solved = placer::estimate(&grid.counts, &grid.marks, &grid.floats, grid.reference, &mut transforms, &mut chains);
+            black_box(solved).expect("a grid that is solved");
+            black_box(&transforms);
+        },
+        || {
+            let solved = estimate_extrinsics_from_cam_target_poses(black_box(&views), reference);
+            black_box(solved).expect("a grid that is solved");
+        },
+    );
+}
+
+fn dense(random: &mut Random, views: usize, cameras: usize) -> Grid {
+    Grid::whole(views, cameras, 0, &vec![true; views * cameras], |_| near_identity(random))
+}
+
+/// Cameras in a line, neighbours sharing four views.
+fn chain(random: &mut Random, cameras: usize) -> Grid {
+    let views = 4 * (cameras - 1);
+    let held: Vec<bool> = (0..views * cameras)
+        .map(|cell| {
+            let (view, camera) = (cell / cameras, cell % cameras);
+            camera == view / 4 || camera == view / 4 + 1
+        })
+        .collect();
+    Grid::whole(views, cameras, 0, &held, |_| near_identity(random))
+}
+
+/// 65,536 bytes: a full grid of poses, each command that is refused though well formed, and Solve twice.
+fn stream(random: &mut Random) -> Vec<u8> {
+    let mut stream = Vec::new();
+    size_command(&mut stream, 64, 16, 0);
+    for cell in 0..1024 + 86 {
+        pose_command(&mut stream, cell % 64, cell / 64 % 16, near_identity(random));
+    }
+    for _ in 0..10 {
+        size_command(&mut stream, 64, 16, 0);
+    }
+    solve_command(&mut stream);
+    solve_command(&mut stream);
+    assert_eq!(stream.len(), 65_536);
+    stream
+}
+
+/// The Rust has no stream: this is a plain reader of one, above the Rust's function. It counts what is refused.
+fn read_plainly(stream: &[u8]) -> (usize, usize) {
+    let mut views: Vec<Vec<Option<Iso3>>> = Vec::new();
+    let mut reference = 0;
+    let (mut solved, mut refused) = (0, 0);
+    let mut at = 0;
+    while at < stream.len() {
+        match &stream[at..] {
+            [1, v, c, r, ..] => {
+                if views.is_empty() && (1..=64).contains(v) && (1..=16).contains(c) && r < c {
+                    views = vec![vec![None; *c as usize]; *v as usize];
+                    reference = *r as usize;
+                } else {
+                    refused += 1;
+                }
+                at += 4;
+            }
+            [2, v, c, floats @ ..] if floats.len() >= 56 => {
+                let offered: Pose = std::array::from_fn(|i| f64::from_le_bytes(floats[8 * i..8 * i + 8].try_into().unwrap()));
+                match views.get_mut(*v as usize).and_then(|view| view.get_mut(*c as usize)) {
+                    Some(cell @ None) if offered.iter().all(|x| x.is_finite()) => *cell = Some(iso(offered)),
+                    _ => refused += 1,
+                }
+                at += 59;
+            }
+            [3, ..] => {
+                match estimate_extrinsics_from_cam_target_poses(&views, reference) {
+                    Ok(poses) => {
+                        black_box(poses);
+                        solved += 1;
+                    }
+                    Err(_) => refused += 1,
+                }
+                at += 1;
+            }
+            _ => return (solved, refused + 1),
+        }
+    }
+    (solved, refused)
+}
+
+fn read_by_library(stream: &[u8]) -> (usize, usize) {
+    let mut session = placer::Session::new();
+    let (mut solved, mut refused) = (0, 0);
+    let mut at = 0;
+    while at < stream.len() {
+        let placer::Reply { answer, next } = session.step(stream, at);
+        solved += (answer == Ok(placer::Accepted::Solved)) as usize;
+        refused += answer.is_err() as usize;
+        at = next;
+    }
+    (solved, refused)
+}
+
+fn main() {
+    let rounds: usize = std::env::args().nth(1).map_or(201, |word| word.parse().expect("a number of rounds"));
+    let mut random = Random::new(1, 0);
+    let random = &mut random;
+    println!("| work | ours | Rust | ratio | eight rounds in ten |");
+    println!("|---|---|---|---|---|");
+
+    let numbers: Vec<f64> = (0..1024).map(|_| random.unit() * 10f64.powi(random.below(20) as i32 - 10)).collect();
+    compare(
+        rounds,
+        "root",
+        numbers.len(),
+        || numbers.iter().for_each(|&x| keep(placer::sqrt(black_box(x)))),
+        || numbers.iter().for_each(|&x| keep(black_box(x).sqrt())),
+    );
+
+    let poses: Vec<Pose> = (0..1024).map(|_| near_identity(random)).collect();
+    let floats: Vec<f64> = poses.as_flattened().to_vec();
+    let isos: Vec<Iso3> = poses.iter().map(|&p| iso(p)).collect();
+    let mut answer = vec![0.0; floats.len()];
+    compare(
+        rounds,
+        "product of poses, each",
+        poses.len(),
+        || keep(placer::product(black_box(&poses))),
+        || keep(black_box(&isos).iter().fold(Iso3::identity(), |all, p| all * p)),
+    );
+    let mut inverses = isos.clone();
+    compare(
+        rounds,
+        "inverse of a pose",
+        poses.len(),
+        || {
+            let floats = black_box(&floats);
+            black_box(unsafe { placer::ffi::placer_inverses(floats.as_ptr(), floats.len(), answer.as_mut_ptr(), answer.len()) });
+            black_box(&answer);
+        },
+        || {
+            for (inverse, iso) in inverses.iter_mut().zip(black_box(&isos)) {
+                *inverse = iso.inverse();
+            }
+            black_box(&inverses);
+        },
+    );
+    compare(
+        rounds,
+        "average of 64 poses",
+        1,
+        || keep(placer::average(black_box(&poses[..64]))),
+        || keep(average_isometries(black_box(&isos[..64]))),
+    );
+
+    estimate(rounds, "direct call, 64 views × 16 cameras, full", &dense(random, 64, 16));
+    estimate(rounds, "direct call, chain of 16 cameras, 60 views of two", &chain(random, 16));
+    estimate(rounds, "direct call, 2 views × 2 cameras", &dense(random, 2, 2));
+    for views in [4, 8, 16, 32, 64] {
+        estimate(rounds, &format!("direct call, {views} views × 16 cameras, full"), &dense(random, views, 16));
+    }
+    for cameras in [2, 4, 8, 16] {
+        estimate(rounds, &format!("direct call, 64 views × {cameras} cameras, full"), &dense(random, 64, cameras));
+    }
+    let stream = stream(random);
+    assert_eq!((read_by_library(&stream), read_plainly(&stream)), ((2, 96), (2, 96)));
+    compare(
+        rounds,
+        "stream of 65,536 bytes: 1,121 commands, two of them Solve",
+        1,
+        || keep(read_by_library(black_box(&stream))),
+        || keep(read_plainly(black_box(&stream))),
+    );
+    // The times are of the same answers, which tests/compare.sh holds to each other.
+    let ours = placer::average(&poses[..64]).expect("an average");
+    assert_eq!(ours, flat(&average_isometries(&isos[..64]).expect("an average")));
+    assert_eq!(floats.len(), POSE_FLOATS * poses.len());
+}

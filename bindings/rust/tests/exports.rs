@@ -1,0 +1,412 @@
+//! Every export, through the declarations of `ffi`, with every refusal that it has and with what it accepts: so that the declarations here, in
+//! include/placer.h and in crates/placer/src/lib.rt are one. Guards stand around all memory that is lent, and a refusal must leave it alone.
+
+use placer::ffi;
+use placer::*;
+use std::ptr::{null, null_mut};
+
+const GUARD: f64 = 123.25;
+const STANDING: Pose = [1.0, 2.0, 3.0, 0.0, 0.0, 0.0, 1.0];
+
+fn refusal(number: u64, detail: u64) -> u64 {
+    number << 32 | detail
+}
+
+/// Calls with a lent answer of that many doubles in the middle of guards: the reply, and the answer.
+fn lent(length: usize, call: impl FnOnce(*mut f64, usize) -> u64) -> (u64, Vec<f64>) {
+    let mut memory = vec![GUARD; length + 2];
+    let reply = call(memory[1..].as_mut_ptr(), length);
+    assert_eq!((memory[0], memory[length + 1]), (GUARD, GUARD), "memory around the answer was written");
+    (reply, memory[1..=length].to_vec())
+}
+
+// ---- the square root
+
+#[test]
+fn roots() {
+    for x in [0.0, -0.0, 1.0, 2.0, 4.0, 1e-320, f64::MIN_POSITIVE, f64::MAX, f64::INFINITY, 0.1, 12345.678] {
+        assert_eq!(sqrt(x).to_bits(), x.sqrt().to_bits(), "root of {x}");
+    }
+    assert_eq!(sqrt(2.0).to_bits(), 0x3ff6_a09e_667f_3bcd);
+    assert_eq!(sqrt(f64::from_bits(1)), 2f64.powi(-537));
+    for x in [-1.0, f64::NEG_INFINITY, f64::NAN, -1e-320] {
+        assert!(sqrt(x).is_nan(), "root of {x}");
+    }
+}
+
+// ---- lists of poses
+
+fn average_of(floats: &[f64], room: usize) -> (u64, Vec<f64>) {
+    lent(room, |mean, length| unsafe { ffi::placer_average(floats.as_ptr(), floats.len(), mean, length) })
+}
+
+#[test]
+fn average_refuses() {
+    let list = |poses: usize| STANDING.repeat(poses);
+    for (floats, room, expected) in [
+        (list(0), 7, refusal(1, 0)),
+        (list(0), 0, refusal(1, 0)),
+        (list(65), 7, refusal(2, 0)),
+        (list(65), 0, refusal(2, 0)),
+        (list(64)[..447].to_vec(), 7, refusal(5, 0)),
+        (list(1)[..6].to_vec(), 7, refusal(5, 0)),
+        (list(2), 6, refusal(5, 0)),
+        (list(2), 0, refusal(5, 0)),
+    ] {
+        let (reply, mean) = average_of(&floats, room);
+        assert_eq!(reply, expected, "{} floats, room for {room}", floats.len());
+        assert!(mean.iter().all(|&x| x == GUARD), "a refusal wrote");
+    }
+    for x in [f64::NAN, f64::INFINITY, f64::NEG_INFINITY] {
+        for at in 0..7 {
+            let mut floats = list(64);
+            floats[7 * 40 + at] = x;
+            floats[7 * 63 + at] = x;
+            assert_eq!(average_of(&floats, 7).0, refusal(7, 40));
+        }
+    }
+    // 5 comes before 7.
+    assert_eq!(average_of(&[f64::NAN; 8], 7).0, refusal(5, 0));
+}
+
+#[test]
+fn average_answers() {
+    let (reply, mean) = average_of(&STANDING.repeat(64), 9);
+    assert_eq!((reply, &mean[..7], &mean[7..]), (0, &STANDING[..], &[GUARD; 2][..]));
+    // P10, P12, and a sum of translations.
+    let turned = |w: f64| [0.0, 0.0, 0.0, 0.0, 0.0, 0.0, w];
+    assert_eq!(average(&[turned(1.0), turned(-1.0)]), Ok(turned(1.0)));
+    assert_eq!(average(&[turned(0.0)]), Ok(turned(1.0)));
+    assert_eq!(average(&[STANDING, turned(1.0)]), Ok([0.5, 1.0, 1.5, 0.0, 0.0, 0.0, 1.0]));
+    // Overflow is no refusal.
+    let far = [f64::MAX, 0.0, 0.0, 0.0, 0.0, 0.0, 1.0];
+    assert_eq!(average(&[far, far]).unwrap()[0], f64::INFINITY);
+    assert_eq!(average(&[]), Err(Refusal { number: 1, detail: 0 }));
+}
+
+#[test]
+fn product_refuses_and_answers() {
+    let call = |floats: &[f64], room| lent(room, |answer, length| unsafe { ffi::placer_product(floats.as_ptr(), floats.len(), answer, length) });
+    for (floats, room) in [(&STANDING[..6], 7), (&STANDING[..1], 7), (&STANDING[..], 6), (&[], 6), (&[], 0)] {
+        let (reply, answer) = call(floats, room);
+        assert_eq!(reply, refusal(5, 0));
+        assert!(answer.iter().all(|&x| x == GUARD), "a refusal wrote");
+    }
+    let (reply, answer) = call(&STANDING.repeat(3), 8);
+    assert_eq!((reply, &answer[..]), (0, &[3.0, 6.0, 9.0, 0.0, 0.0, 0.0, 1.0, GUARD][..]));
+    assert_eq!(product(&[]), [0.0, 0.0, 0.0, 0.0, 0.0, 0.0, 1.0]);
+    // A half turn about z, then a step along x.
+    let half_turn = [0.0, 0.0, 0.0, 0.0, 0.0, 1.0, 0.0];
+    assert_eq!(product(&[half_turn, STANDING])[..3], [-1.0, -2.0, 3.0]);
+}
+
+#[test]
+fn inverses_refuse_and_answer() {
+    let call = |floats: &[f64], room| lent(room, |answer, length| unsafe { ffi::placer_inverses(floats.as_ptr(), floats.len(), answer, length) });
+    for (floats, room) in [(&STANDING[..6], 7), (&STANDING[..], 6), (&STANDING[..], 0)] {
+        let (reply, answer) = call(floats, room);
+        assert_eq!(reply, refusal(5, 0));
+        assert!(answer.iter().all(|&x| x == GUARD), "a refusal wrote");
+    }
+    let (reply, answer) = call(&STANDING, 8);
+    assert_eq!((reply, &answer[..3], answer[7]), (0, &[-1.0, -2.0, -3.0][..], GUARD));
+    assert_eq!(inverses(&[]), Vec::<Pose>::new());
+    let inverse = inverses(&[STANDING])[0];
+    assert_eq!(product(&[STANDING, inverse])[..3], [0.0; 3]);
+}
+
+// ---- the direct call
+
+#[derive(Clone)]
+struct Grid {
+    counts: Vec<u32>,
+    marks: Vec<u8>,
+    floats: Vec<f64>,
+    reference: u32,
+    first: usize,
+    second: usize,
+}
+
+impl Grid {
+    fn full(views: usize, cameras: usize) -> Grid {
+        Grid {
+            counts: vec![cameras as u32; views],
+            marks: vec![1; views * cameras],
+            floats: STANDING.repeat(views * cameras),
+            reference: 0,
+            first: 7 * (cameras + views),
+            second: 2 * cameras,
+        }
+    }
+
+    fn with(mut self, change: impl FnOnce(&mut Grid)) -> Grid {
+        change(&mut self);
+        self
+    }
+
+    /// The reply, with guards around both answers, and both answers.
+    fn call(&self) -> (u64, Vec<f64>, Vec<u8>) {
+        let mut chains = vec![77; self.second + 2];
+        let (reply, transforms) = lent(self.first, |transforms, length| unsafe {
+            ffi::placer_estimate(
+                self.counts.as_ptr(),
+                self.counts.len(),
+                self.marks.as_ptr(),
+                self.marks.len(),
+                self.floats.as_ptr(),
+                self.floats.len(),
+                self.reference,
+                transforms,
+                length,
+                chains[1..].as_mut_ptr(),
+                self.second,
+            )
+        });
+        assert_eq!((chains[0], chains[self.second + 1]), (77, 77), "memory around the chains was written");
+        (reply, transforms, chains[1..=self.second].to_vec())
+    }
+
+    fn refuses(&self, number: u64, detail: u64) {
+        let (reply, transforms, chains) = self.call();
+        assert_eq!(reply, refusal(number, detail));
+        assert!(transforms.iter().all(|&x| x == GUARD) && chains.iter().all(|&x| x == 77), "a refusal wrote");
+    }
+}
+
+#[test]
+fn estimate_refuses() {
+    Grid::full(0, 0).refuses(1, 0);
+    Grid::full(1, 0).refuses(1, 0);
+    Grid::full(65, 1).refuses(2, 0);
+    Grid::full(1, 17).refuses(2, 0);
+    Grid::full(1, 1).with(|g| g.counts[0] = u32::MAX).refuses(2, 0);
+    Grid::full(2, 16).with(|g| g.reference = 16).refuses(3, 0);
+    Grid::full(2, 16).with(|g| g.reference = u32::MAX).refuses(3, 0);
+    Grid::full(2, 2).with(|g| g.counts[1] = 3).refuses(4, 1);
+    Grid::full(3, 2).with(|g| g.marks.truncate(5)).refuses(5, 0);
+    Grid::full(3, 2).with(|g| g.marks.push(0)).refuses(5, 0);
+    Grid::full(3, 2).with(|g| g.floats.truncate(41)).refuses(5, 0);
+    Grid::full(3, 2).with(|g| g.floats.push(0.0)).refuses(5, 0);
+    Grid::full(3, 2).with(|g| g.first -= 1).refuses(5, 0);
+    Grid::full(3, 2).with(|g| g.second -= 1).refuses(5, 0);
+    Grid::full(3, 2).with(|g| g.marks[4] = 2).refuses(6, 4);
+    Grid::full(3, 2).with(|g| g.marks[5] = 255).refuses(6, 5);
+    for at in 0..7 {
+        Grid::full(3, 2).with(|g| g.floats[7 * 3 + at] = f64::NAN).refuses(7, 3);
+        Grid::full(3, 2).with(|g| g.floats[7 * 5 + at] = f64::NEG_INFINITY).refuses(7, 5);
+    }
+    Grid::full(2, 2).with(|g| g.marks = vec![1, 0, 0, 1]).refuses(8, 2);
+    Grid::full(3, 2).with(|g| g.marks = vec![1, 0, 0, 1, 0, 0]).refuses(8, 2);
+    Grid::full(2, 2).with(|g| g.marks = vec![1, 1, 0, 0]).refuses(9, 1);
+}
+
+#[test]
+fn estimate_answers() {
+    let (reply, transforms, chains) = Grid::full(1, 1).call();
+    assert_eq!((reply, &chains[..]), (0, &[0, 0][..]));
+    assert_eq!(transforms, [[0.0, 0.0, 0.0, 0.0, 0.0, 0.0, 1.0], STANDING].concat());
+    // Longer answers keep what they have beyond.
+    let (reply, transforms, chains) = Grid::full(64, 16).with(|g| (g.first, g.second, g.reference) = (600, 40, 15)).call();
+    assert_eq!(reply, 0);
+    assert!(transforms[560..].iter().all(|&x| x == GUARD) && chains[32..].iter().all(|&x| x == 77));
+    assert_eq!((&chains[..2], &chains[30..32]), (&[15, 1][..], &[15, 0][..]));
+    // The numbers of an empty cell are ignored.
+    let (reply, ..) = Grid::full(2, 2).with(|g| (g.marks[3], g.floats[7 * 3]) = (0, f64::NAN)).call();
+    assert_eq!(reply, 0);
+}
+
+#[test]
+fn rigs_are_placed() {
+    let views = vec![vec![Some(STANDING), Some(STANDING), None], vec![None, Some(STANDING), Some(STANDING)]];
+    let rig = place_rig(&views, 0).expect("a rig");
+    assert_eq!(rig.cameras.iter().map(|c| (c.parent, c.links)).collect::<Vec<_>>(), [(0, 0), (0, 1), (1, 2)]);
+    assert_eq!(rig.rig_se3_target, [STANDING; 2]);
+    let apart = vec![vec![Some(STANDING), None, None], vec![None, Some(STANDING), Some(STANDING)]];
+    let refusal = place_rig(&apart, 0).unwrap_err();
+    assert_eq!((refusal, cameras_in(refusal.detail)), (Refusal { number: 8, detail: 6 }, vec![1, 2]));
+}
+
+// ---- sessions
+
+fn size(views: u8, cameras: u8, reference: u8) -> Vec<u8> {
+    vec![1, views, cameras, reference]
+}
+
+fn place(view: u8, camera: u8, pose: Pose) -> Vec<u8> {
+    let mut command = vec![2, view, camera];
+    pose.iter().for_each(|x| command.extend(x.to_le_bytes()));
+    command
+}
+
+const SOLVE: [u8; 1] = [3];
+
+struct Lent {
+    record: Vec<u64>,
+    buffer: Vec<f64>,
+    transforms: Vec<f64>,
+    chains: Vec<u8>,
+}
+
+impl Lent {
+    fn fresh() -> Lent {
+        Lent {
+            record: vec![0; RECORD_WORDS],
+            buffer: vec![GUARD; BUFFER_FLOATS],
+            transforms: vec![GUARD; FIRST_FLOATS],
+            chains: vec![77; SECOND_BYTES],
+        }
+    }
+
+    fn with(mut self, change: impl FnOnce(&mut Lent)) -> Lent {
+        change(&mut self);
+        self
+    }
+
+    fn step(&mut self, stream: &[u8], at: usize) -> (u64, usize) {
+        let mut next = 0;
+        let reply = unsafe {
+            ffi::placer_step(
+                self.record.as_mut_ptr(),
+                self.record.len(),
+                stream.as_ptr(),
+                stream.len(),
+                at,
+                self.buffer.as_mut_ptr(),
+                self.buffer.len(),
+                self.transforms.as_mut_ptr(),
+                self.transforms.len(),
+                self.chains.as_mut_ptr(),
+                self.chains.len(),
+                &mut next,
+            )
+        };
+        (reply, next)
+    }
+
+    /// All that is lent, as words.
+    fn words(&self) -> Vec<u64> {
+        let floats = self.buffer.iter().chain(&self.transforms).map(|x| x.to_bits());
+        self.record.iter().copied().chain(floats).chain(self.chains.iter().map(|&x| x as u64)).collect()
+    }
+
+    /// One command refused: the reply, the next offset, and nothing changed.
+    fn refuses(mut self, stream: &[u8], at: usize, number: u64, detail: u64, next: usize) {
+        let before = self.words();
+        assert_eq!(self.step(stream, at), (refusal(number, detail), next), "from {at} of {} bytes", stream.len());
+        assert!(before == self.words(), "a refusal changed something");
+    }
+
+    /// The same after commands that are accepted.
+    fn after(mut self, commands: &[Vec<u8>]) -> Lent {
+        for command in commands {
+            assert_eq!(self.step(command, 0), (1, command.len()));
+        }
+        self
+    }
+}
+
+#[test]
+fn step_refuses() {
+    let sized = || Lent::fresh().after(&[size(2, 2, 0)]);
+    // 13, then 5, before all else.
+    Lent::fresh().refuses(&vec![3; MAX_STREAM + 1], 0, 13, 0, MAX_STREAM + 1);
+    Lent::fresh().with(|l| l.record.truncate(18)).refuses(&vec![3; MAX_STREAM + 1], 0, 13, 0, MAX_STREAM + 1);
+    for spoil in [
+        (|l| l.record.truncate(18)) as fn(&mut Lent),
+        |l| l.record.push(0),
+        |l| l.record[16] = 256,
+        |l| l.record[17] = 1 << 63,
+        |l| l.record[18] = 1,
+        |l| l.record[3] = 1,
+        |l| l.record[16..].copy_from_slice(&[65, 1, 0]),
+        |l| l.record[16..].copy_from_slice(&[1, 17, 0]),
+        |l| l.record[16..].copy_from_slice(&[1, 1, 1]),
+        |l| (l.record[0], l.record[16], l.record[17]) = (2, 1, 1),
+        |l| (l.record[1], l.record[16], l.record[17]) = (1, 1, 1),
+        |l| l.buffer.truncate(BUFFER_FLOATS - 1),
+        |l| l.buffer.push(0.0),
+        |l| l.transforms.truncate(FIRST_FLOATS - 1),
+        |l| l.chains.truncate(SECOND_BYTES - 1),
+    ] {
+        Lent::fresh().with(spoil).refuses(&SOLVE, 0, 5, 0, 1);
+        Lent::fresh().with(spoil).refuses(&SOLVE, 9, 5, 0, 1);
+    }
+    for byte in [0, 4, 255] {
+        sized().refuses(&[byte, 3], 0, 10, byte as u64, 2);
+    }
+    let pose = place(1, 1, STANDING);
+    for length in 1..pose.len() {
+        sized().refuses(&[&[3, 3], &pose[..length]].concat(), 2, 11, 2, 2 + length);
+    }
+    sized().refuses(&SOLVE, 2, 11, 1, 1);
+    Lent::fresh().refuses(&pose, 0, 21, 0, 59);
+    Lent::fresh().refuses(&SOLVE, 0, 21, 0, 1);
+    sized().refuses(&size(1, 1, 0), 0, 22, 0, 4);
+    for (views, cameras, reference, number) in [(0, 0, 0, 1), (65, 0, 0, 2), (1, 0, 0, 1), (1, 17, 0, 2), (64, 16, 16, 3)] {
+        Lent::fresh().refuses(&size(views, cameras, reference), 0, number, 0, 4);
+    }
+    sized().refuses(&place(2, 0, STANDING), 0, 12, 512, 59);
+    sized().refuses(&place(0, 2, STANDING), 0, 12, 2, 59);
+    sized().after(&[pose.clone()]).refuses(&pose, 0, 23, 257, 59);
+    for at in 0..7 {
+        let mut bad = STANDING;
+        bad[at] = f64::INFINITY;
+        sized().refuses(&place(1, 0, bad), 0, 7, 2, 59);
+    }
+    // Solve: 7 for what was spoilt since, 8, and 9.
+    sized().after(&[pose.clone()]).with(|l| l.buffer[7 * 17] = f64::NAN).refuses(&SOLVE, 0, 7, 3, 1);
+    sized().after(&[pose.clone(), place(0, 0, STANDING)]).refuses(&SOLVE, 0, 8, 2, 1);
+    sized().after(&[pose, place(1, 0, STANDING)]).refuses(&SOLVE, 0, 9, 0, 1);
+}
+
+#[test]
+fn step_obeys() {
+    let mut session = Session::new();
+    let stream = [size(1, 1, 0), place(0, 0, STANDING), SOLVE.to_vec()].concat();
+    assert_eq!(session.feed(&stream), [Ok(Accepted::Held), Ok(Accepted::Held), Ok(Accepted::Solved)]);
+    assert_eq!(session.step(&stream, stream.len()), Reply { answer: Ok(Accepted::End), next: stream.len() });
+    let rig = session.rig().expect("a rig");
+    assert_eq!((rig.cameras[0].links, rig.rig_se3_target), (0, vec![STANDING]));
+    assert_eq!(session.record()[..2], [1, 0]);
+    // An accepted Pose writes its seven floats only.
+    let mut lent = Lent::fresh().after(&[size(64, 16, 3), place(63, 15, STANDING)]);
+    assert_eq!(lent.record[15], 1 << 63);
+    assert_eq!(lent.buffer.split_off(7 * (63 * 16 + 15)), STANDING);
+    assert!(lent.buffer.iter().all(|&x| x == GUARD));
+}
+
+// ---- no memory at all
+
+#[test]
+fn null_will_do_for_nothing() {
+    unsafe {
+        assert_eq!(ffi::placer_average(null(), 0, null_mut(), 0), refusal(1, 0));
+        assert_eq!(ffi::placer_product(null(), 0, null_mut(), 0), refusal(5, 0));
+        let mut identity = [GUARD; 7];
+        assert_eq!(ffi::placer_product(null(), 0, identity.as_mut_ptr(), 7), 0);
+        assert_eq!(identity, [0.0, 0.0, 0.0, 0.0, 0.0, 0.0, 1.0]);
+        assert_eq!(ffi::placer_inverses(null(), 0, null_mut(), 0), 0);
+        assert_eq!(ffi::placer_estimate(null(), 0, null(), 0, null(), 0, 0, null_mut(), 0, null_mut(), 0), refusal(1, 0));
+        let counts = [1];
+        assert_eq!(ffi::placer_estimate(counts.as_ptr(), 1, null(), 0, null(), 0, 0, null_mut(), 0, null_mut(), 0), refusal(5, 0));
+        let mut next = 1;
+        let reply = ffi::placer_step(null_mut(), 0, null(), 0, 0, null_mut(), 0, null_mut(), 0, null_mut(), 0, &mut next);
+        assert_eq!((reply, next), (refusal(5, 0), 0));
+        let mut l = Lent::fresh();
+        let reply = ffi::placer_step(
+            l.record.as_mut_ptr(),
+            RECORD_WORDS,
+            null(),
+            0,
+            0,
+            l.buffer.as_mut_ptr(),
+            BUFFER_FLOATS,
+            l.transforms.as_mut_ptr(),
+            FIRST_FLOATS,
+            l.chains.as_mut_ptr(),
+            SECOND_BYTES,
+            &mut next,
+        );
+        assert_eq!((reply, next), (0, 0));
+    }
+}

@@ -1,0 +1,186 @@
+-- The checks of the direct call on inputs that hold a grid of the Rust's: sizes and counts are checked as the Rust checks them, nothing else is
+-- refused before 8 within the limits, and the grid that marks and floats make is the Rust's. Assumes nothing.
+use Prim.Native.Nat.{ℕ, zero, suc, _+_, _*_, _/_, _%_, _≤_, _<_}
+use native.Mathlib.Nat.{mod-lt, div-add-mod', div-lt-iff-lt-mul}
+use native.Mathlib.Omega.{arith}
+use mathlib.Core.Path.{_≡_, refl, sym, ap, ap₂, _∙_}
+use mathlib.Core.Logic.{_≢_}
+use mathlib.Core.Bool.{Bool, true, false, not, false≢true}
+use mathlib.Core.Option.{Option, none, some}
+use mathlib.Core.List.{List, []}
+use lib.ListN.{length, getD, length-map, List·getD-map}
+use lib.Dec.{T, eqb, ltb}
+use lib.Ieee.{Float}
+use borrow.Author.Tests.{eqb-true, eq-eqb, ne-eqb, le-ltb, le-leb, lt-leb, not-false}
+use Rattle.arithmetic.specs.Pose.{finitePose}
+use Rattle.arithmetic.specs.declared.pose.Pose.{Pose}
+use Rattle.refusal.specs.Table.{refuseAt}
+use Rattle.refusal.specs.declared.Refusal.the-variants.{InsufficientData, InvalidReference, CountDiffers, BadMark, NotFinite}
+use Rattle.extrinsics.specs.Limits.{maxViews, maxCameras}
+use Rattle.extrinsics.specs.Grid.{Grid}
+use Rattle.extrinsics.specs.Outcome.{lowest, isNotFinite, notFinite}
+use Rattle.extrinsics.specs.Direct.{sizeRefusal, markedCell, cellCount, lowestOtherCount, countRefusal, lengthRefusal, markRefusal, directGrid}
+use Rattle.extrinsics.specs.declared.grid.Cell.the-variants.{Empty}
+use Rattle.demands.specs.RustStd.{forEach}
+use Rattle.demands.specs.Rust.{cameraCount, numViews, numCameras, checkCount, checkCounts}
+use Rattle.demands.specs.Encoding.{cellFor, poseOf, EqualCounts, EncodesCells, Encodes, WithinLimits, RoomEnough}
+use Rattle.extrinsics.proofs.Tabulated.{getD-tabulate}
+use Rattle.extrinsics.proofs.Lowest.{lowest-passes, lowest-none-fails, lowest-agree}
+use Rattle.extrinsics.proofs.ViewCells.{row-inside}
+use Rattle.demands.proofs.Iterators.{enumerate-tabulate, stopped, forEach-lowest}
+use Rattle.demands.proofs.SameGrid.{SameGrid}
+
+-- ---- searches and cells
+
+pub lowest-nothing : (test : ℕ → Bool) (n : ℕ) → ((i : ℕ) → i < n → test i ≡ false) → lowest test n ≡ none
+lowest-nothing test n h = go (lowest test n) refl
+  where
+    go : (o : Option ℕ) → lowest test n ≡ o → o ≡ none
+    go none e = refl
+    go (some i) e = let (l, t) = lowest-passes test n i e in absurd (false≢true (sym (h i l) ∙ t))
+
+-- Every cell is in the row and the column of its quotient and its remainder.
+some-column : (i m n : ℕ) → i < m * n → 0 < n
+some-column i m zero h = absurd (omega arith)
+some-column i m (suc n) h = omega arith
+
+-- ---- 1, 2 and 3
+
+module _ (views cameras reference : ℕ) where
+  pub size-no-views : views ≡ 0 → sizeRefusal views cameras reference ≡ some InsufficientData
+  unfolding sizeRefusal
+  size-no-views e = rw (eq-eqb views 0 e)
+
+  module _ (some-view : views ≢ 0) (views-fit : views ≤ maxViews) where
+    pub size-no-cameras : cameras ≡ 0 → sizeRefusal views cameras reference ≡ some InsufficientData
+    unfolding sizeRefusal
+    size-no-cameras e = rw (ne-eqb views 0 some-view, le-ltb maxViews views views-fit, eq-eqb cameras 0 e)
+
+    module _ (some-camera : cameras ≢ 0) (cameras-fit : cameras ≤ maxCameras) where
+      pub size-reference : cameras ≤ reference → sizeRefusal views cameras reference ≡ some InvalidReference
+      unfolding sizeRefusal
+      size-reference l =
+          rw (
+            ne-eqb views 0 some-view,
+            le-ltb maxViews views views-fit,
+            ne-eqb cameras 0 some-camera,
+            le-ltb maxCameras cameras cameras-fit,
+            le-leb cameras reference l,
+          )
+
+      pub size-passes : reference < cameras → sizeRefusal views cameras reference ≡ none
+      unfolding sizeRefusal
+      size-passes l =
+          rw (
+            ne-eqb views 0 some-view,
+            le-ltb maxViews views views-fit,
+            ne-eqb cameras 0 some-camera,
+            le-ltb maxCameras cameras cameras-fit,
+            lt-leb cameras reference l,
+          )
+
+-- ---- 4
+
+-- The lowest view whose count is not that of view 0.
+module _ (camSe3Target : List (List (Option Pose))) where
+  abbrev isOther : ℕ → Bool
+  isOther v = not (eqb (length (getD camSe3Target v [])) (numCameras camSe3Target))
+
+  abbrev pub otherCount : Option ℕ
+  otherCount = lowest isOther (numViews camSe3Target)
+
+  pub equal-counts : otherCount ≡ none → EqualCounts camSe3Target
+  equal-counts e v l = eqb-true _ _ (not-false _ (lowest-none-fails isOther (numViews camSe3Target) v e l))
+
+  pub checkCounts-otherCount : checkCounts camSe3Target ≡ stopped cameraCount otherCount tt
+  unfolding checkCount checkCounts numViews
+  checkCounts-otherCount =
+      ap (λ (l : List (ℕ × List (Option Pose))). forEach l (checkCount camSe3Target) tt) (enumerate-tabulate [] camSe3Target)
+      ∙ forEach-lowest (checkCount camSe3Target) (λ v. (v, getD camSe3Target v [])) (λ v. tt) isOther cameraCount (length camSe3Target) (λ v l. refl)
+
+-- ---- 5 and 7
+
+pub length-passes : (views cameras marks floats firstRoom secondRoom : ℕ) → marks ≡ views * cameras → floats ≡ 7 * (views * cameras)
+    → 7 * (cameras + views) ≤ firstRoom → 2 * cameras ≤ secondRoom → lengthRefusal views cameras marks floats firstRoom secondRoom ≡ none
+unfolding lengthRefusal
+length-passes views cameras marks floats firstRoom secondRoom em ef h k =
+    rw (eq-eqb marks (views * cameras) em, eq-eqb floats (7 * (views * cameras)) ef, le-ltb firstRoom (7 * (cameras + views)) h, le-ltb secondRoom (2 * cameras) k)
+
+pub T-not-false : (b : Bool) → T b → not b ≡ false
+T-not-false true t = refl
+T-not-false false t = absurd t
+
+isNotFinite-cellFor : (o : Option Pose) → ((p : Pose) → o ≡ some p → T (finitePose p)) → isNotFinite (cellFor o) ≡ false
+unfolding isNotFinite
+isNotFinite-cellFor none h = refl
+isNotFinite-cellFor (some p) h = T-not-false (finitePose p) (h p refl)
+
+-- ---- inputs that hold a grid
+
+module _ (camSe3Target : List (List (Option Pose))) (counts marks : List ℕ) (floats : List Float) (encoded : Encodes camSe3Target counts marks floats) where
+  pub length-counts : length counts ≡ numViews camSe3Target
+  unfolding numViews
+  length-counts = ap length (encoded .count-each) ∙ length-map camSe3Target length
+
+  getD-counts : (v : ℕ) → getD counts v 0 ≡ length (getD camSe3Target v [])
+  getD-counts v = ap (λ (l : List ℕ). getD l v 0) (encoded .count-each) ∙ List·getD-map length camSe3Target v []
+
+  pub first-count : getD counts 0 0 ≡ numCameras camSe3Target
+  unfolding numCameras
+  first-count = getD-counts 0
+
+  pub countRefusal-otherCount : countRefusal counts ≡ refuseAt (otherCount camSe3Target) CountDiffers
+  unfolding countRefusal lowestOtherCount
+  countRefusal-otherCount =
+      ap (λ (o : Option ℕ). refuseAt o CountDiffers)
+      (ap (lowest (λ v. not (eqb (getD counts v 0) (getD counts 0 0)))) length-counts
+      ∙ lowest-agree _ _ (numViews camSe3Target) (λ v l. ap₂ (λ (a b : ℕ). not (eqb a b)) (getD-counts v) first-count))
+
+  module _ (equal : EqualCounts camSe3Target) where
+    abbrev holding : EncodesCells camSe3Target marks floats
+    holding = encoded .cells equal
+
+    cellCount-same : cellCount counts ≡ numViews camSe3Target * numCameras camSe3Target
+    cellCount-same = ap₂ (λ (a b : ℕ). a * b) length-counts first-count
+
+    pub lengths-pass : (firstRoom secondRoom : ℕ) → RoomEnough camSe3Target firstRoom secondRoom
+        → lengthRefusal (length counts) (getD counts 0 0) (length marks) (length floats) firstRoom secondRoom ≡ none
+    lengths-pass firstRoom secondRoom room =
+        length-passes (length counts) (getD counts 0 0) (length marks) (length floats) firstRoom secondRoom (holding .mark-each ∙ sym cellCount-same)
+        (holding .seven-each ∙ ap (λ (n : ℕ). 7 * n) (sym cellCount-same)) (omega (arith, room .first-fits, length-counts, first-count))
+        (omega (arith, room .second-fits, first-count))
+
+    pub marks-pass : markRefusal (cellCount counts) marks ≡ none
+    unfolding markRefusal
+    marks-pass =
+        ap (λ (o : Option ℕ). refuseAt o BadMark)
+        (lowest-nothing (λ i. ltb 1 (getD marks i 0)) (cellCount counts)
+        (λ i l. le-ltb 1 (getD marks i 0) (holding .mark-small i (omega (arith, holding .mark-each, cellCount-same)))))
+
+    module _ (reference : ℕ) where
+      abbrev g : Grid
+      g = directGrid counts marks floats reference
+
+      pub same-grid : SameGrid camSe3Target g
+      unfolding directGrid
+      same-grid = record {
+        same-views = length-counts;
+        same-cameras = first-count;
+        view-length = λ v h. equal v (omega (arith, length-counts)) ∙ sym first-count;
+        same-cell = λ v c h k.
+            getD-tabulate (cellCount counts) (markedCell marks floats) Empty (v * getD counts 0 0 + c) (row-inside v (length counts) (getD counts 0 0) c h k)
+            ∙ ap (λ (n : ℕ). markedCell marks floats (v * n + c)) first-count
+            ∙ holding .same-cell v c (omega (arith, length-counts)) (omega (arith, first-count));
+      }
+
+      pub notFinite-passes : WithinLimits camSe3Target → notFinite g ≡ none
+      unfolding notFinite
+      notFinite-passes limits = ap (λ (o : Option ℕ). refuseAt o NotFinite) (lowest-nothing _ (g .views * g .cameras) cell-finite)
+        where
+          cell-finite : (i : ℕ) → i < g .views * g .cameras → isNotFinite (getD (g .cells) i Empty) ≡ false
+          cell-finite i l =
+              let n = g .cameras in
+              let h : 0 < n = some-column i (g .views) n l in
+              ap (λ (j : ℕ). isNotFinite (getD (g .cells) j Empty)) (sym (div-add-mod' i n))
+              ∙ ap isNotFinite (same-grid .same-cell (i / n) (i % n) (div-lt-iff-lt-mul h .1 l) (mod-lt i h))
+              ∙ isNotFinite-cellFor (poseOf camSe3Target (i / n) (i % n)) (limits .finite-poses (i / n) (i % n))

@@ -1,0 +1,22 @@
+-- The theorems that the demands are met, and the laws they rest on.
+pub mod Iterators
+pub mod Ascending
+pub mod Gathered
+pub mod SameGrid
+pub mod PartialRigs
+pub mod RustLayers
+pub mod RustTargets
+pub mod DirectChecks
+pub mod RustSteps
+pub mod GridRefusals
+pub mod Agreement
+pub mod CallAgrees
+pub mod Encoded
+pub mod ArithmeticCases
+pub mod Blocks
+pub mod MarkedViews
+pub mod Naming
+pub mod ReadBack
+pub mod Demand3
+pub mod WellFormed
+pub mod Cases

@@ -1,0 +1,7 @@
+-- What the demands say of the direct call: the Rust function on its own terms, and how its grids are handed over. Definitions only.
+pub mod RustStd
+pub mod Rust
+pub mod Encoding
+pub mod ArithmeticCases
+pub mod Demand3
+pub mod Cases

@@ -1,0 +1,97 @@
+-- `unreached_cameras` meets its contract: the set is the sum over the cameras passed, and the tree's byte for no place stands exactly at
+-- those without a place. Assumes nothing.
+use Prim.Native.Nat.{ℕ, _-_, _≤_}
+use native.Mathlib.Omega.{arith}
+use mathlib.Core.Path.{_≡_, refl, ap₂, _∙_}
+use mathlib.Core.Logic.{⊎-elim}
+use mathlib.Core.Bool.{Bool, not}
+use borrow.Author.Needs.{needs}
+use borrow.Author.Tests.{eq-eqb, ne-eqb}
+use lib.ListN.{getD}
+use lib.Dec.{eqb}
+use lib.Pow.{pow-mono}
+use Rattle.extrinsics.specs.Limits.{notPlacedByte}
+use Rattle.extrinsics.specs.Grid.{spots, hasPlace}
+use Rattle.extrinsics.specs.Trees.{treeOf}
+use Rattle.extrinsics.specs.Rig.{rigGrid}
+use Rattle.extrinsics.specs.Outcome.{powerSum, unreachedSet}
+use Rattle.extrinsics.specs.declared.tree.Tree.{Tree}
+use Rattle.extrinsics.proofs.PowerSums.{powerSum-lt, powerSum-more, powerSum-same, powerSum-agree, one-shl}
+use Rattle.extrinsics.proofs.PlaceBytes.{no-place-byte}
+use Rattle.extrinsics.proofs.checks.unreached_cameras.Statement.{statement}
+use Rattle.extrinsics.proofs.checks.unreached_cameras.Tie as tie
+
+abbrev noPlace : Tree → ℕ → Bool
+noPlace tree c = eqb (getD (tree .links) c 0) notPlacedByte
+
+abbrev Inv-loop : tie.InvT-loop
+Inv-loop floats tree cameras set₀ camera₀ set camera =
+    (camera ≤ cameras) × (set ≡ powerSum (noPlace tree) camera)
+
+abbrev μ-loop : tie.MeasureT-loop
+μ-loop floats tree cameras set₀ camera₀ set camera = cameras - camera
+
+loop-holds : tie.Need-loop-holds Inv-loop μ-loop
+unfolding powerSum
+loop-holds c = (omega arith, refl)
+
+element-copy-out-if1 : tie.Need-element-copy-out-if1 Inv-loop μ-loop
+element-copy-out-if1 c = search needs
+
+cast-set : tie.Need-cast-set Inv-loop μ-loop
+cast-set c = search needs
+
+shl-set : tie.Need-shl-set Inv-loop μ-loop
+shl-set c = search needs
+
+add-set : tie.Need-add-set Inv-loop μ-loop
+add-set c =
+    let l = c .before .before .before in
+    omega (
+      arith,
+      one-shl (l .loop .camera) (omega arith),
+      powerSum-lt (noPlace (l .before .args .t3)) (l .loop .camera),
+      pow-mono {i = l .loop .camera} {j = 16} (omega arith),
+    )
+
+add-camera : tie.Need-add-camera Inv-loop μ-loop
+add-camera c = search needs
+
+loop-less : tie.Need-loop-less Inv-loop μ-loop
+loop-less c = search needs
+
+loop-again : tie.Need-loop-again Inv-loop μ-loop
+loop-again c =
+    let l = c .before .before .before in
+    let test = noPlace (l .before .args .t3) in (
+      omega arith,
+      ⊎-elim
+          (λ w. omega (arith, powerSum-more test (l .loop .camera) (eq-eqb _ _ (w .0 .taken)), one-shl (l .loop .camera) (omega arith)))
+          (λ w. omega (arith, powerSum-same test (l .loop .camera) (ne-eqb _ _ (w .0 .left)))) (c .if1 .came),
+    )
+
+returns : tie.Need-returns Inv-loop μ-loop
+unfolding unreachedSet rigGrid
+returns c =
+    let a = c .before .before .args in
+    let g = rigGrid (a .rig) (a .floats .now) in
+    let all : c .before .loop .camera ≡ a .rig .cameras = omega arith in
+    c .before .loop .inv .1
+    ∙ ap₂ (λ (t : Tree) (n : ℕ). powerSum (noPlace t) n) (c .before .before .pre .1) all
+    ∙ powerSum-agree (noPlace (treeOf (spots g))) (λ i. not (hasPlace g i)) (a .rig .cameras) (λ i l. no-place-byte g (omega arith) i l)
+
+pub unreached-cameras-spec : {M : Type 1} → statement M
+unreached-cameras-spec =
+    tie.close
+    (tie.spec
+    Inv-loop
+    μ-loop
+    loop-holds
+    element-copy-out-if1
+    cast-set
+    shl-set
+    add-set
+    add-camera
+    loop-less
+    loop-again
+    returns)

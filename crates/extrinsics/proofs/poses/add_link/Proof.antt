@@ -1,0 +1,64 @@
+-- `add_link` meets its contract: by the cells of both cameras, either no pose is taken or the one candidate. Assumes nothing.
+use borrow.Author.Needs.{needs}
+use Rattle.extrinsics.specs.Estimate.{linkCandidate}
+use Rattle.extrinsics.proofs.poses.add_link.Statement.{statement}
+use Rattle.extrinsics.proofs.poses.add_link.Tie as tie
+
+enum-told : tie.Need-enum-told
+enum-told c = search needs
+
+enum-known-of-parent : tie.Need-enum-known-of-parent
+enum-known-of-parent c = search needs
+
+enum-told-2 : tie.Need-enum-told-2
+enum-told-2 c = search needs
+
+enum-known-of-camera : tie.Need-enum-known-of-camera
+enum-known-of-camera c = search needs
+
+inverse-requires : tie.Need-inverse-requires
+inverse-requires c κs = search needs
+
+product-requires : tie.Need-product-requires
+product-requires c κs = search needs
+
+add-requires : tie.Need-add-requires
+add-requires c κs = search needs
+
+-- The parent's cell is empty.
+returns : tie.Need-returns
+unfolding linkCandidate
+returns c = simp (c .enum-told .given .1)
+
+-- The camera's cell is empty.
+returns-2 : tie.Need-returns-2
+unfolding linkCandidate
+returns-2 c = simp (c .before .before .before .of-parent .given .1, c .enum-told2 .given .1)
+
+-- Both hold a pose.
+returns-3 : tie.Need-returns-3
+unfolding linkCandidate
+returns-3 c =
+    let held = c .before .before .before .before in
+    simp (
+      held .before .before .before .of-parent .given .1,
+      held .of-camera .given .1,
+      c .add .ensures,
+      c .before .product .ensures,
+      c .before .before .inverse .ensures,
+    )
+
+pub add-link-spec : {M : Type 1} → statement M
+add-link-spec =
+    tie.close
+    (tie.spec
+    enum-told
+    enum-known-of-parent
+    enum-told-2
+    enum-known-of-camera
+    inverse-requires
+    product-requires
+    add-requires
+    returns
+    returns-2
+    returns-3)

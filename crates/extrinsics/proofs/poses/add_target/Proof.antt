@@ -1,0 +1,33 @@
+-- `add_target` meets its contract: by the camera's cell, either no pose is taken or the one candidate. Assumes nothing.
+use borrow.Author.Needs.{needs}
+use Rattle.extrinsics.specs.Estimate.{targetCandidate}
+use Rattle.extrinsics.proofs.poses.add_target.Statement.{statement}
+use Rattle.extrinsics.proofs.poses.add_target.Tie as tie
+
+enum-told : tie.Need-enum-told
+enum-told c = search needs
+
+enum-known-of-camera : tie.Need-enum-known-of-camera
+enum-known-of-camera c = search needs
+
+product-requires : tie.Need-product-requires
+product-requires c κs = search needs
+
+add-requires : tie.Need-add-requires
+add-requires c κs = search needs
+
+-- The cell is empty.
+returns : tie.Need-returns
+unfolding targetCandidate
+returns c = simp (c .enum-told .given .1)
+
+-- It holds a pose.
+returns-2 : tie.Need-returns-2
+unfolding targetCandidate
+returns-2 c =
+    simp (c .before .before .before .of-camera .given .1, c .add .ensures, c .before .product .ensures)
+
+pub add-target-spec : {M : Type 1} → statement M
+add-target-spec =
+    tie.close
+    (tie.spec enum-told enum-known-of-camera product-requires add-requires returns returns-2)

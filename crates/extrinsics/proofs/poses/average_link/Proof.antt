@@ -1,0 +1,125 @@
+-- `average_link` meets its contract: the sum has taken the candidates of the views passed, and `pose-inside` keeps the reads of each
+-- view among the floats. Assumes nothing.
+use Prim.Native.Nat.{_+_, _-_, _*_, _≤_}
+use native.Mathlib.Omega.{arith}
+use mathlib.Core.Path.{_≡_}
+use borrow.Author.Needs.{needs}
+use Rattle.arithmetic.specs.Average.{taken}
+use Rattle.arithmetic.proofs.Averaging.{mean-taken}
+use Rattle.extrinsics.specs.Estimate.{gather, linkCandidate, averagedLink}
+use Rattle.extrinsics.specs.Rig.{maskedCell, rigCell}
+use Rattle.extrinsics.proofs.Gathering.{taken-gather-next, length-linkCandidate-le}
+use Rattle.extrinsics.proofs.ViewCells.{pose-inside}
+use Rattle.extrinsics.proofs.Candidates.{linkCandidates-rigCell}
+use Rattle.extrinsics.proofs.poses.average_link.Statement.{statement}
+use Rattle.extrinsics.proofs.poses.average_link.Tie as tie
+
+abbrev Inv-loop : tie.InvT-loop
+Inv-loop floats parent camera stride views parent-mask camera-mask sum₀ view₀ sum view =
+    (view ≤ views)
+    × (sum ≡ taken (gather view (λ v. linkCandidate (maskedCell parent-mask floats v (v * stride + parent)) (maskedCell camera-mask floats v (v * stride + camera)))))
+
+abbrev μ-loop : tie.MeasureT-loop
+μ-loop floats parent camera stride views parent-mask camera-mask sum₀ view₀ sum view = views - view
+
+mul-parent-mask : tie.Need-mul-parent-mask Inv-loop μ-loop
+mul-parent-mask c = search needs
+
+element-copy-out-parent-mask : tie.Need-element-copy-out-parent-mask Inv-loop μ-loop
+element-copy-out-parent-mask c = search needs
+
+mul-camera-mask : tie.Need-mul-camera-mask Inv-loop μ-loop
+mul-camera-mask c = search needs
+
+element-copy-out-camera-mask : tie.Need-element-copy-out-camera-mask Inv-loop μ-loop
+element-copy-out-camera-mask c = search needs
+
+new-requires : tie.Need-new-requires Inv-loop μ-loop
+new-requires c κs = search needs
+
+loop-holds : tie.Need-loop-holds Inv-loop μ-loop
+unfolding gather
+loop-holds c = (omega arith, c .new .ensures)
+
+mul-row : tie.Need-mul-row Inv-loop μ-loop
+mul-row c =
+    let s = c .before .before .before .before .before .before in
+    omega (arith, pose-inside _ _ (c .before .loop .view) (s .args .parent) (omega arith) (s .pre .1) (s .pre .0))
+
+add-read-cell : tie.Need-add-read-cell Inv-loop μ-loop
+add-read-cell c =
+    let s = c .before .before .before .before .before .before in
+    omega (arith, pose-inside _ _ (c .before .loop .view) (s .args .parent) (omega arith) (s .pre .1) (s .pre .0))
+
+read-cell-requires : tie.Need-read-cell-requires Inv-loop μ-loop
+read-cell-requires c κs =
+    let s = c .before .before .before .before .before .before in
+    omega (arith, pose-inside _ _ (c .before .loop .view) (s .args .parent) (omega arith) (s .pre .1) (s .pre .0))
+
+add-read-cell-2 : tie.Need-add-read-cell-2 Inv-loop μ-loop
+add-read-cell-2 c =
+    let s = c .before .before .before .before .before .before .before in
+    omega (arith, pose-inside _ _ (c .before .before .loop .view) (s .args .camera) (omega arith) (s .pre .2) (s .pre .0))
+
+read-cell-requires-2 : tie.Need-read-cell-requires-2 Inv-loop μ-loop
+read-cell-requires-2 c κs =
+    let s = c .before .before .before .before .before .before .before in
+    omega (arith, pose-inside _ _ (c .before .before .loop .view) (s .args .camera) (omega arith) (s .pre .2) (s .pre .0))
+
+add-link-requires : tie.Need-add-link-requires Inv-loop μ-loop
+add-link-requires c κs = search needs
+
+add-view : tie.Need-add-view Inv-loop μ-loop
+add-view c = search needs
+
+loop-less : tie.Need-loop-less Inv-loop μ-loop
+loop-less c = search needs
+
+loop-again : tie.Need-loop-again Inv-loop μ-loop
+loop-again c =
+    let l = c .before .before .before .before in (
+      omega arith,
+      simp (c .add-link .ensures, c .before .read-cell2 .ensures, c .before .before .read-cell .ensures, l .loop .inv .1)
+          (taken-gather-next (l .loop .view) _ (λ v. length-linkCandidate-le _ _) (omega arith)),
+    )
+
+mean-requires : tie.Need-mean-requires Inv-loop μ-loop
+mean-requires c κs = search needs
+
+returns : tie.Need-returns Inv-loop μ-loop
+unfolding averagedLink rigCell
+returns c =
+    let l = c .before .before in
+    let s = l .before .before .before .before .before in
+    let whole : l .loop .view ≡ s .args .t1 .views = omega arith in
+    simp (
+      c .mean .ensures,
+      l .loop .inv .1,
+      mean-taken,
+      whole,
+      linkCandidates-rigCell (s .args .t1) (s .args .floats .now) (s .args .parent) (s .args .camera) (s .pre .1) (s .pre .2),
+    )
+
+pub average-link-spec : {M : Type 1} → statement M
+average-link-spec =
+    tie.close
+    (tie.spec
+    Inv-loop
+    μ-loop
+    mul-parent-mask
+    element-copy-out-parent-mask
+    mul-camera-mask
+    element-copy-out-camera-mask
+    new-requires
+    loop-holds
+    mul-row
+    add-read-cell
+    read-cell-requires
+    add-read-cell-2
+    read-cell-requires-2
+    add-link-requires
+    add-view
+    loop-less
+    loop-again
+    mean-requires
+    returns)

@@ -1,0 +1,62 @@
+// The two lent answers of a solved rig: the transforms of cameras and then of views, and the chains.
+ghost use Prim.Native.Nat.{ℕ, _*_, _≤_};
+ghost use mathlib.Core.Path.{_≡_};
+ghost use mathlib.Core.List.{[], _∷_, _++_};
+ghost use lib.ListN.{length, getD, drop};
+ghost use Rattle.arithmetic.specs.Pose.{flat};
+ghost use Rattle.extrinsics.specs.Estimate.{gather, rigSe3Target};
+ghost use Rattle.extrinsics.specs.Rig.{rigGrid, Fitting};
+ghost use Rattle.extrinsics.specs.Placed.{PlacedAll, nowhere};
+use crate::grid::Rig;
+use crate::poses::average_target;
+use crate::tree::MAX_CAMERAS;
+use crate::tree::Tree;
+use arithmetic::pose::POSE_FLOATS;
+use arithmetic::pose::Pose;
+
+// Each camera's seven numbers go into the part of the answer that begins at 7 times its index.
+pub(crate) fn write_cameras(rig_se3_cam: [Pose; MAX_CAMERAS], cameras: usize, answer: &mut [f64])
+    requires { ⌜ (cameras ≤ 16) × (7 * cameras ≤ length (now answer)) ⌝ }
+    ensures { λ _. ⌜ now (answer .exit) ≡ gather cameras (λ c. flat (getD «rig_se3_cam» c nowhere)) ++ drop (7 * cameras) (now (answer .entry)) ⌝ }
+{
+    let mut camera = 0;
+    while camera < cameras {
+        let at = POSE_FLOATS * camera;
+        let pose = rig_se3_cam[camera];
+        pose.write(&mut answer[at..]);
+        camera += 1;
+    }
+}
+
+// The same for the views, from the front of the part that is lent.
+pub(crate) fn write_targets(
+    rig: Rig,
+    floats: &[f64],
+    rig_se3_cam: [Pose; MAX_CAMERAS],
+    answer: &mut [f64],
+)
+    requires { ⌜ Fitting rig (now floats) × PlacedAll (rigGrid rig (now floats)) «rig_se3_cam» × (7 * rig .views ≤ length (now answer)) ⌝ }
+    ensures { λ _. ⌜ now (answer .exit) ≡ gather (rig .views) (λ v. flat (rigSe3Target (rigGrid rig (now (floats .entry))) v)) ++ drop (7 * rig .views) (now (answer .entry)) ⌝ }
+{
+    let views = rig.views;
+    let mut view = 0;
+    while view < views {
+        let at = POSE_FLOATS * view;
+        let pose = average_target(rig, floats, rig_se3_cam, view);
+        pose.write(&mut answer[at..]);
+        view += 1;
+    }
+}
+
+// A parent and a link count for each camera.
+pub(crate) fn write_chains(tree: Tree, cameras: usize, answer: &mut [u8])
+    requires { ⌜ (cameras ≤ 16) × (2 * cameras ≤ length (now answer)) ⌝ }
+    ensures { λ _. ⌜ now (answer .exit) ≡ gather cameras (λ c. getD (tree .parent) c 0 ∷ getD (tree .links) c 0 ∷ []) ++ drop (2 * cameras) (now (answer .entry)) ⌝ }
+{
+    let mut camera = 0;
+    while camera < cameras {
+        answer[2 * camera] = tree.parent[camera];
+        answer[2 * camera + 1] = tree.links[camera];
+        camera += 1;
+    }
+}

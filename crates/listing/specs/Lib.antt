@@ -1,0 +1,4 @@
+-- The definitions that the contracts of `listing` cite: the lines that a reply prints, how long they are at most, and bytes put into lent memory. Definitions only; their laws are in proofs/.
+pub mod Listing
+pub mod Widths
+pub mod Writing

@@ -1,0 +1,33 @@
+-- `is_record` meets its contract: its tests are those of `isRecord`. Assumes nothing.
+use borrow.Author.Tests.{eq-eqb, ne-eqb}
+use borrow.Author.Needs.{needs}
+use Rattle.placer.specs.Step.{isRecord}
+use Rattle.placer.proofs.record.is_record.Statement.{statement}
+use Rattle.placer.proofs.record.is_record.Tie as tie
+
+returns : tie.Need-returns
+unfolding isRecord
+returns c = simp (ne-eqb _ _ (c .if1 .taken))
+
+shared-slice-read-result : tie.Need-shared-slice-read-result
+shared-slice-read-result c = search needs
+
+shared-slice-read-result-2 : tie.Need-shared-slice-read-result-2
+shared-slice-read-result-2 c = search needs
+
+shared-slice-read-result-3 : tie.Need-shared-slice-read-result-3
+shared-slice-read-result-3 c = search needs
+
+returns-2 : tie.Need-returns-2
+unfolding isRecord
+returns-2 c = simp (eq-eqb _ _ (c .before .before .before .if1 .left))
+
+pub is-record-spec : {M : Type 1} → statement M
+is-record-spec =
+    tie.close
+    (tie.spec
+    returns
+    shared-slice-read-result
+    shared-slice-read-result-2
+    shared-slice-read-result-3
+    returns-2)

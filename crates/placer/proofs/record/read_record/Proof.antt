@@ -1,0 +1,103 @@
+-- `read_record` meets its contract. The loop's invariant: the masks before `camera` are read. Assumes nothing.
+use Prim.Native.Nat.{ℕ, _-_, _≤_, _<_}
+use native.Mathlib.Omega.{arith}
+use mathlib.Core.Path.{_≡_, refl, ap, _∙_}
+use mathlib.Core.List.{List}
+use borrow.Author.Count.{below-none, below-more}
+use borrow.Author.Needs.{needs}
+use lib.ListN.{length, getD}
+use lib.Seq.{getD-set-same, getD-set-other}
+use Rattle.session.specs.declared.Session.{Session}
+use Rattle.placer.proofs.Records.{masks-read}
+use Rattle.placer.proofs.record.read_record.Statement.{statement}
+use Rattle.placer.proofs.record.read_record.Tie as tie
+
+abbrev withSizes : List ℕ → List ℕ → Session
+withSizes m words = record { masks = m; views = getD words 16 0; cameras = getD words 17 0; reference = getD words 18 0 }
+
+abbrev Inv-loop : tie.InvT-loop
+Inv-loop words masks₀ camera₀ masks camera = (camera ≤ 16) × (length masks ≡ 16) × ((c : ℕ) → c < camera → getD masks c 0 ≡ getD words c 0)
+
+abbrev μ-loop : tie.MeasureT-loop
+μ-loop words masks₀ camera₀ masks camera = 16 - camera
+
+loop-holds : tie.Need-loop-holds Inv-loop μ-loop
+loop-holds c = (search needs, refl, below-none _)
+
+mul-masks : tie.Need-mul-masks Inv-loop μ-loop
+mul-masks c = search needs
+
+shared-slice-read-masks : tie.Need-shared-slice-read-masks Inv-loop μ-loop
+shared-slice-read-masks c = search needs
+
+mul-masks-2 : tie.Need-mul-masks-2 Inv-loop μ-loop
+mul-masks-2 c = search needs
+
+array-write-masks : tie.Need-array-write-masks Inv-loop μ-loop
+array-write-masks c = search needs
+
+add-camera : tie.Need-add-camera Inv-loop μ-loop
+add-camera c = search needs
+
+loop-less : tie.Need-loop-less Inv-loop μ-loop
+loop-less c = search needs
+
+loop-again : tie.Need-loop-again Inv-loop μ-loop
+loop-again c =
+    let l = c .before .before in
+    let word = getD (l .before .args .words .now) (l .loop .camera) 0 in (
+      search needs,
+      search needs,
+      below-more
+          _
+          _
+          (λ k h. getD-set-other (l .loop .masks) (l .loop .camera) k word 0 (omega arith) ∙ l .loop .inv .2 k h)
+          (getD-set-same (l .loop .masks) (l .loop .camera) word 0 (search needs)),
+    )
+
+shared-slice-read-t13 : tie.Need-shared-slice-read-t13 Inv-loop μ-loop
+shared-slice-read-t13 c = search needs
+
+cast-t14 : tie.Need-cast-t14 Inv-loop μ-loop
+cast-t14 c = search needs
+
+shared-slice-read-t16 : tie.Need-shared-slice-read-t16 Inv-loop μ-loop
+shared-slice-read-t16 c = search needs
+
+cast-t17 : tie.Need-cast-t17 Inv-loop μ-loop
+cast-t17 c = search needs
+
+shared-slice-read-t19 : tie.Need-shared-slice-read-t19 Inv-loop μ-loop
+shared-slice-read-t19 c = search needs
+
+cast-t20 : tie.Need-cast-t20 Inv-loop μ-loop
+cast-t20 c = search needs
+
+returns : tie.Need-returns Inv-loop μ-loop
+returns c =
+    let l = c .before .before .before .before in
+    let words = l .before .args .words .now in
+    ap (λ (masks : List ℕ). withSizes masks words)
+    (masks-read (l .loop .masks) words (l .loop .inv .1) (omega arith) (λ k h. l .loop .inv .2 k (omega arith)))
+
+pub read-record-spec : {M : Type 1} → statement M
+read-record-spec =
+    tie.close
+    (tie.spec
+    Inv-loop
+    μ-loop
+    loop-holds
+    mul-masks
+    shared-slice-read-masks
+    mul-masks-2
+    array-write-masks
+    add-camera
+    loop-less
+    loop-again
+    shared-slice-read-t13
+    cast-t14
+    shared-slice-read-t16
+    cast-t17
+    shared-slice-read-t19
+    cast-t20
+    returns)

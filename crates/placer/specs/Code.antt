@@ -1,0 +1,27 @@
+-- Answers as one 64-bit number: for a refusal number times 2 ^ 32 plus detail, and 0 where nothing is refused; for a command also 1 where it was accepted and 2 where
+-- it solved a rig. Rests on the table of refusals.
+use Prim.Native.Nat.{ℕ, _+_, _*_, _^_}
+use mathlib.Core.Option.{Option, none, some}
+use Rattle.refusal.specs.Table.{numberOf, detailOf}
+use Rattle.refusal.specs.declared.Refusal.{Refusal}
+use Rattle.extrinsics.specs.declared.Outcome.{Outcome}
+use Rattle.extrinsics.specs.declared.Outcome.the-variants.{Refused, Solved}
+use Rattle.session.specs.declared.Reply.{Reply}
+use Rattle.session.specs.declared.Reply.the-variants as Replied
+
+abbrev pub codeOf : Refusal → ℕ
+codeOf r = numberOf r * 2 ^ 32 + detailOf r
+
+unfoldable pub codeOfOutcome : Outcome → ℕ
+codeOfOutcome (Refused r) = codeOf r
+codeOfOutcome Solved = 0
+
+unfoldable pub replyOf : Option Refusal → ℕ
+replyOf (some r) = codeOf r
+replyOf none = 0
+
+unfoldable pub codeOfReply : Reply → ℕ
+codeOfReply Replied.End = 0
+codeOfReply Replied.Accepted = 1
+codeOfReply Replied.Solved = 2
+codeOfReply (Replied.Refused r) = codeOf r

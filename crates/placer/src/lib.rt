@@ -1,0 +1,127 @@
+// The static library: what C and Rust call. Each export answers 0, or what it refuses as number times 2^32 plus detail, and a
+// refusal writes nothing. No export asks anything of its caller but that the slices are real. include/placer.h is the C header.
+ghost use mathlib.Core.Path.{_≡_};
+ghost use Rattle.arithmetic.specs.Root.{rootOf};
+ghost use Rattle.placer.specs.Exports.{Estimated, Averaged, Multiplied, Inverted};
+ghost use Rattle.placer.specs.Step.{Stepped};
+
+mod code;
+mod poses;
+mod record;
+
+use crate::code::outcome_code;
+use crate::code::refusal_code;
+use crate::code::reply_code;
+use crate::poses::check_list;
+use crate::poses::check_poses;
+use crate::poses::find_by_mean;
+use crate::poses::product_of;
+use crate::poses::write_inverses;
+use crate::record::is_record;
+use crate::record::not_a_record;
+use crate::record::read_record;
+use crate::record::write_record;
+use arithmetic::average::average_floats;
+use arithmetic::root::sqrt;
+use extrinsics::checks::Found;
+use extrinsics::direct::Checked;
+use extrinsics::estimate_extrinsics_from_cam_target_poses;
+use refusal::Refusal;
+use session::obey;
+
+// The square root of IEEE 754, for every double.
+#[no_mangle]
+pub extern "C" fn placer_sqrt(x: f64) -> f64
+    ensures { λ r. ⌜ r ≡ rootOf x ⌝ }
+{
+    sqrt(x)
+}
+
+// The average of poses, seven floats each, into the first seven floats of `mean`. Refuses 1, 2, 5 and 7.
+#[no_mangle]
+pub extern "C" fn placer_average(poses: &[f64], mean: &mut [f64]) -> u64
+    ensures { λ r. ⌜ Averaged (now (poses .entry)) (now (mean .entry)) r (now (mean .exit)) ⌝ }
+{
+    if let Checked::Refused(refusal) = check_list(poses.len(), mean.len()) {
+        return refusal_code(refusal);
+    }
+    let average = average_floats(poses);
+    if let Found::At(pose) = find_by_mean(poses, average) {
+        return refusal_code(Refusal::NotFinite(pose));
+    }
+    average.write(mean);
+    0
+}
+
+// The product of poses, in order, into the first seven floats of `product`; of no poses the identity. Refuses 5.
+#[no_mangle]
+pub extern "C" fn placer_product(poses: &[f64], product: &mut [f64]) -> u64
+    ensures { λ r. ⌜ Multiplied (now (poses .entry)) (now (product .entry)) r (now (product .exit)) ⌝ }
+{
+    if let Checked::Refused(refusal) = check_poses(poses.len(), product.len(), 7) {
+        return refusal_code(refusal);
+    }
+    product_of(poses).write(product);
+    0
+}
+
+// The inverse of each pose, each at its own place in `inverses`. Refuses 5.
+#[no_mangle]
+pub extern "C" fn placer_inverses(poses: &[f64], inverses: &mut [f64]) -> u64
+    ensures { λ r. ⌜ Inverted (now (poses .entry)) (now (inverses .entry)) r (now (inverses .exit)) ⌝ }
+{
+    if let Checked::Refused(refusal) = check_poses(poses.len(), inverses.len(), poses.len()) {
+        return refusal_code(refusal);
+    }
+    write_inverses(poses, inverses);
+    0
+}
+
+// The direct call. Refuses 1 to 9.
+#[no_mangle]
+pub extern "C" fn placer_estimate(
+    counts: &[u32],
+    marks: &[u8],
+    floats: &[f64],
+    reference: u32,
+    transforms: &mut [f64],
+    chains: &mut [u8],
+) -> u64
+    ensures { λ r. ⌜ Estimated (now (counts .entry)) (now (marks .entry)) (now (floats .entry)) reference (now (transforms .entry)) (now (chains .entry)) r (now (transforms .exit)) (now (chains .exit)) ⌝ }
+{
+    outcome_code(estimate_extrinsics_from_cam_target_poses(
+        counts,
+        marks,
+        floats,
+        reference,
+        transforms,
+        chains,
+    ))
+}
+
+// Obeys the one command at an offset of a stream: the session record goes in and out as nineteen words, the sixteen masks, the views, the
+// cameras and the reference, all 0 in a fresh session; and `next` is set to where the next command begins. Answers 0 at the end of the
+// stream, 1 for a command accepted and 2 for a rig solved. Refuses what the session refuses, and words that are no record with 5.
+#[no_mangle]
+pub extern "C" fn placer_step(
+    session: &mut [u64],
+    stream: &[u8],
+    at: usize,
+    buffer: &mut [f64],
+    transforms: &mut [f64],
+    chains: &mut [u8],
+    next: &mut usize,
+) -> u64
+    ensures { λ r. ⌜ Stepped (now (session .entry)) (now (stream .entry)) at (now (buffer .entry)) (now (transforms .entry)) (now (chains .entry)) r (now (next .exit)) (now (session .exit)) (now (buffer .exit)) (now (transforms .exit)) (now (chains .exit)) ⌝ }
+{
+    if !is_record(session) {
+        *next = stream.len();
+        return refusal_code(not_a_record(stream.len()));
+    }
+    let step = obey(read_record(session), stream, at, buffer, transforms, chains);
+    let after = step.session;
+    let reply = step.reply;
+    write_record(after, session);
+    *next = step.next;
+    reply_code(reply)
+}

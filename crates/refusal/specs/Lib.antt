@@ -1,0 +1,2 @@
+-- The table of refusals. Definitions only.
+pub mod Table

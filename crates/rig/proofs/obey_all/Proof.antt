@@ -1,0 +1,60 @@
+-- `rig::obey_all` meets its contract: what is lent keeps its lengths, and what is left of the stream falls with each command. Assumes nothing.
+use Prim.Native.Nat.{_-_}
+use mathlib.Core.Path.{_≡_}
+use lib.ListN.{length}
+use borrow.Author.Needs.{needs}
+use Rattle.rig.proofs.obey_all.Statement.{statement}
+use Rattle.rig.proofs.obey_all.Tie as tie
+
+abbrev Inv-loop : tie.InvT-loop
+Inv-loop stream buffer₀ transforms₀ chains₀ text₀ session₀ at₀ buffer transforms chains text session at = (length buffer ≡ length buffer₀) × (length transforms ≡ length transforms₀) × (length chains ≡ length chains₀) × (length text ≡ length text₀)
+
+abbrev μ-loop : tie.MeasureT-loop
+μ-loop stream buffer₀ transforms₀ chains₀ text₀ session₀ at₀ buffer transforms chains text session at = length stream - at
+
+fresh-requires : tie.Need-fresh-requires Inv-loop μ-loop
+fresh-requires c κs = search needs
+
+loop-holds : tie.Need-loop-holds Inv-loop μ-loop
+loop-holds c = search needs
+
+obey-and-print-requires : tie.Need-obey-and-print-requires Inv-loop μ-loop
+obey-and-print-requires c κs = search needs
+
+loop-less : tie.Need-loop-less Inv-loop μ-loop
+loop-less c = search needs
+
+loop-again : tie.Need-loop-again Inv-loop μ-loop
+loop-again c = search needs
+
+same-length : tie.Need-same-length Inv-loop μ-loop
+same-length c = search needs
+
+same-length-2 : tie.Need-same-length-2 Inv-loop μ-loop
+same-length-2 c = search needs
+
+same-length-3 : tie.Need-same-length-3 Inv-loop μ-loop
+same-length-3 c = search needs
+
+same-length-4 : tie.Need-same-length-4 Inv-loop μ-loop
+same-length-4 c = search needs
+
+returns : tie.Need-returns Inv-loop μ-loop
+returns c = search needs
+
+pub obey-all-spec : {M : Type 1} → statement M
+obey-all-spec =
+    tie.close
+    (tie.spec
+    Inv-loop
+    μ-loop
+    fresh-requires
+    loop-holds
+    obey-and-print-requires
+    loop-less
+    loop-again
+    same-length
+    same-length-2
+    same-length-3
+    same-length-4
+    returns)

@@ -1,0 +1,15 @@
+-- Laws of `session` that belong to no one function, a file a topic.
+pub mod Tests
+pub mod Words
+pub mod Patterns
+pub mod OfferedPoses
+pub mod Refusals
+pub mod AllBelow
+pub mod PossibleRecords
+pub mod SetBits
+pub mod Obeying
+pub mod SizeCommands
+pub mod PoseCommands
+pub mod SolveCommands
+pub mod PassedCalls
+pub mod ReadCommands

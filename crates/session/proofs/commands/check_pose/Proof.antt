@@ -1,0 +1,109 @@
+-- `check_pose` meets its contract: each test taken or left is the same test of `commandRefusal`, and a cell that 12 lets pass is small enough for the mask and the detail.
+-- Assumes nothing.
+use native.Mathlib.Nat.{le-of-lt, mul-le-mul}
+use native.Mathlib.Omega.{arith}
+use mathlib.Core.Path.{sym, _∙_}
+use borrow.Author.Tests.{eq-eqb, ne-eqb, not-true, not-false}
+use borrow.Author.Needs.{needs}
+use Rattle.refusal.specs.Table.{refuseIf, orElse, firstOf}
+use Rattle.extrinsics.specs.Direct.{checkedOf}
+use Rattle.session.specs.Session.{commandRefusal}
+use Rattle.session.proofs.PossibleRecords.{cell-inside}
+use Rattle.session.proofs.commands.check_pose.Statement.{statement}
+use Rattle.session.proofs.commands.check_pose.Tie as tie
+
+returns : tie.Need-returns
+unfolding commandRefusal checkedOf refuseIf orElse firstOf
+returns c b = simp (eq-eqb _ _ (c .if1 .taken))
+
+mul-named : tie.Need-mul-named
+mul-named c = search needs
+
+add-named : tie.Need-add-named
+add-named c = search needs
+
+returns-2 : tie.Need-returns-2
+unfolding commandRefusal checkedOf refuseIf orElse firstOf
+returns-2 c b = simp (ne-eqb _ _ (c .before .if1 .left), c .if2 .taken)
+
+mul-is-held : tie.Need-mul-is-held
+mul-is-held c = search needs
+
+element-copy-out-is-held : tie.Need-element-copy-out-is-held
+element-copy-out-is-held c =
+    let s = c .before .before .before in
+    cell-inside (s .args .t1) (s .pre .1) (c .before .if1 .left) (s .args .view) (s .args .camera) (c .if2 .left) .camera-small
+
+is-held-requires : tie.Need-is-held-requires
+is-held-requires c κs =
+    let s = c .before .before .before .before in
+    cell-inside (s .args .t1) (s .pre .1) (c .before .before .if1 .left) (s .args .view) (s .args .camera) (c .before .if2 .left) .view-small
+
+returns-3 : tie.Need-returns-3
+unfolding commandRefusal checkedOf refuseIf orElse firstOf
+returns-3 c b =
+    let e = c .before .before .before in
+    simp (ne-eqb _ _ (e .before .if1 .left), e .if2 .left, sym (c .before .is-held .ensures) ∙ c .if3 .taken)
+
+is-finite-pose-requires : tie.Need-is-finite-pose-requires
+is-finite-pose-requires c κs = search needs
+
+cast-t27 : tie.Need-cast-t27
+cast-t27 c = search needs
+
+mul-t28 : tie.Need-mul-t28
+mul-t28 c =
+    let e = c .before .before .before .before .before in
+    let s = e .before .before .before in
+    let cell = cell-inside (s .args .t1) (s .pre .1) (e .before .if1 .left) (s .args .view) (s .args .camera) (e .if2 .left) in
+    omega (arith, mul-le-mul (le-of-lt (cell .view-small)) (cell .cameras-fit))
+
+add-t30 : tie.Need-add-t30
+add-t30 c =
+    let e = c .before .before .before .before .before in
+    let s = e .before .before .before in
+    let cell = cell-inside (s .args .t1) (s .pre .1) (e .before .if1 .left) (s .args .view) (s .args .camera) (e .if2 .left) in
+    omega (arith, mul-le-mul (le-of-lt (cell .view-small)) (cell .cameras-fit), cell .camera-small)
+
+returns-4 : tie.Need-returns-4
+unfolding commandRefusal checkedOf refuseIf orElse firstOf
+returns-4 c b =
+    let h = c .before .before in
+    let e = h .before .before .before in
+    simp (
+      ne-eqb _ _ (e .before .if1 .left),
+      e .if2 .left,
+      sym (h .before .is-held .ensures) ∙ h .if3 .left,
+      sym (c .before .is-finite-pose .ensures) ∙ not-true _ (c .if4 .taken),
+    )
+
+returns-5 : tie.Need-returns-5
+unfolding commandRefusal checkedOf refuseIf orElse firstOf
+returns-5 c b =
+    let h = c .before .before in
+    let e = h .before .before .before in
+    simp (
+      ne-eqb _ _ (e .before .if1 .left),
+      e .if2 .left,
+      sym (h .before .is-held .ensures) ∙ h .if3 .left,
+      sym (c .before .is-finite-pose .ensures) ∙ not-false _ (c .if4 .left),
+    )
+
+pub check-pose-spec : {M : Type 1} → statement M
+check-pose-spec =
+    tie.close
+    (tie.spec
+    returns
+    mul-named
+    add-named
+    returns-2
+    mul-is-held
+    element-copy-out-is-held
+    is-held-requires
+    returns-3
+    is-finite-pose-requires
+    cast-t27
+    mul-t28
+    add-t30
+    returns-4
+    returns-5)

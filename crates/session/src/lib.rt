@@ -1,0 +1,118 @@
+// The session: poses arrive as commands in a stream of bytes, one command a call, and Solve answers as the direct call would.
+ghost use mathlib.Core.Path.{_≡_};
+ghost use Rattle.extrinsics.specs.Direct.{checkedOf};
+ghost use Rattle.session.specs.Session.{fresh};
+ghost use Rattle.session.specs.Call.{state, callRefusal, Called};
+
+mod bytes;
+mod commands;
+mod parse;
+mod record;
+
+use crate::commands::obey_command;
+use crate::commands::refuse;
+use crate::record::is_possible;
+use extrinsics::direct::Checked;
+use extrinsics::tree::MAX_CAMERAS;
+use refusal::Refusal;
+
+// The most bytes of a stream.
+pub const MAX_STREAM: usize = 65536;
+
+// The floats of the buffer: seven for each cell of 64 views and 16 cameras.
+pub const BUFFER_FLOATS: usize = 7168;
+
+// The least floats of the first answer, and the least bytes of the second.
+pub const FIRST_FLOATS: usize = 560;
+
+pub const SECOND_BYTES: usize = 32;
+
+// Bit v of a camera's mask is set when view v holds a pose of that camera. A fresh session is all zeros: no sizes, no poses.
+pub struct Session {
+    pub masks: [u64; MAX_CAMERAS],
+    pub views: u8,
+    pub cameras: u8,
+    pub reference: u8,
+}
+
+// What one call answers.
+pub enum Reply {
+    // The offset is the stream's length.
+    End,
+    // Size or Pose was obeyed.
+    Accepted,
+    // Solve was obeyed: the rig stands in the lent answers.
+    Solved,
+    Refused(Refusal),
+}
+
+// The reply, the session after it, and the offset of the next command.
+pub struct Step {
+    pub session: Session,
+    pub reply: Reply,
+    pub next: usize,
+}
+
+pub fn fresh() -> Session
+    ensures { λ r. ⌜ r ≡ fresh ⌝ }
+{
+    Session {
+        masks: [0; MAX_CAMERAS],
+        views: 0,
+        cameras: 0,
+        reference: 0,
+    }
+}
+
+// 13, then 5, and 11 for an offset past the end.
+fn check_call(
+    session: Session,
+    stream: &[u8],
+    at: usize,
+    buffer: &[f64],
+    transforms: &[f64],
+    chains: &[u8],
+) -> Checked
+    ensures { λ r. ⌜ r ≡ checkedOf (callRefusal (state session (now (buffer .entry)) (now (transforms .entry)) (now (chains .entry))) (now (stream .entry)) at) ⌝ }
+{
+    let end = stream.len();
+    if MAX_STREAM < end {
+        return Checked::Refused(Refusal::TooLong);
+    }
+    if (buffer.len() != BUFFER_FLOATS)
+        | (transforms.len() < FIRST_FLOATS)
+        | (chains.len() < SECOND_BYTES)
+        | !is_possible(session)
+    {
+        return Checked::Refused(Refusal::WrongLength);
+    }
+    if end < at {
+        return Checked::Refused(Refusal::Truncated(end as u32));
+    }
+    Checked::Passed
+}
+
+// Obeys the one command at an offset of the stream. The buffer holds the coordinates; the two answers are written by Solve alone.
+pub fn obey(
+    session: Session,
+    stream: &[u8],
+    at: usize,
+    buffer: &mut [f64],
+    transforms: &mut [f64],
+    chains: &mut [u8],
+) -> Step
+    ensures { λ r. ⌜ Called (state session (now (buffer .entry)) (now (transforms .entry)) (now (chains .entry))) (now (stream .entry)) at r (now (buffer .exit)) (now (transforms .exit)) (now (chains .exit)) ⌝ }
+{
+    let end = stream.len();
+    if let Checked::Refused(refusal) = check_call(session, stream, at, buffer, transforms, chains) {
+        return refuse(session, refusal, end);
+    }
+    if at == end {
+        return Step {
+            session: session,
+            reply: Reply::End,
+            next: end,
+        };
+    }
+    obey_command(session, stream, at, buffer, transforms, chains)
+}

@@ -1,0 +1,208 @@
+"""The cases of the program `replies`: every refusal with its detail, every rule of order, and rigs that are solved.
+
+A case is a label, a record, an offset, the lengths of what is lent, and a stream. `encode` says how the program reads
+one, `expected` what it must print: for each call the next offset and the reply, and then the record.
+"""
+
+import math
+import random
+import struct
+
+import oracle
+from commands import SOLVE, pose, size
+
+GOOD = (0.5, -0.25, 2.0, 0.0, 0.0, 0.0, 1.0)
+LISTING = size(1, 1, 0) + pose(0, 0, (1.0, 0.0, 0.0, 0.0, 0.0, 0.0, 1.0)) + SOLVE
+
+
+class Case:
+    def __init__(self, label, stream, at=0, masks=(), views=0, cameras=0, reference=0, buffer=oracle.BUFFER, first=oracle.FIRST, second=oracle.SECOND):
+        self.label, self.stream, self.at = label, stream, at
+        self.masks = list(masks) + [0] * (oracle.CAMERAS - len(masks))
+        self.record = (views, cameras, reference)
+        self.lengths = (buffer, first, second)
+
+    def encode(self):
+        """A line of 64 bytes, 24 words of 64 bits, low byte first, and the stream."""
+        line = (self.label + ' ').ljust(63, '-').encode() + b'\n'
+        assert len(line) == 64, self.label
+        words = [*self.masks, *self.record, self.at, *self.lengths, len(self.stream)]
+        return line + struct.pack('<24Q', *words) + self.stream
+
+    def expected(self):
+        session = oracle.Session(self.masks, *self.record, *self.lengths)
+        at, text = self.at, (self.label + ' ').ljust(63, '-') + '\n'
+        while True:
+            reply, at = session.call(self.stream, at)
+            text += '%d %s' % (at, reply + '\n' if isinstance(reply, str) else oracle.lines(reply))
+            if at >= len(self.stream):
+                break
+        fields = (session.views, session.cameras, session.reference, *session.masks)
+        return text + 'record ' + ' '.join('%x' % f for f in fields) + '\n'
+
+
+# ---- sizes, and what comes before and after them
+
+def size_cases():
+    for label, sizes in [
+        ('no views', (0, 1, 0)),
+        ('no cameras', (1, 0, 0)),
+        ('no views goes before too many cameras and the reference', (0, 17, 20)),
+        ('too many views', (65, 1, 0)),
+        ('too many views goes before no cameras', (65, 0, 9)),
+        ('no cameras goes before the reference', (1, 0, 9)),
+        ('too many cameras', (1, 17, 0)),
+        ('too many cameras goes before the reference', (1, 17, 20)),
+        ('the reference is the camera count', (1, 16, 16)),
+        ('the largest sizes', (64, 16, 15)),
+        ('the largest bytes', (255, 255, 255)),
+    ]:
+        yield Case(label, size(*sizes))
+    yield Case('sizes again', size(2, 2, 0) + size(2, 2, 0))
+    yield Case('sizes again goes before no views', size(2, 2, 0) + size(0, 0, 0))
+    yield Case('a refused size leaves none', size(0, 1, 0) + SOLVE + pose(0, 0, GOOD) + size(1, 1, 0) + pose(0, 0, GOOD) + SOLVE)
+    yield Case('a pose before sizes', pose(0, 0, GOOD))
+    yield Case('a pose before sizes goes before not finite', pose(0, 0, (math.nan,) * 7))
+    yield Case('solve before sizes', SOLVE)
+
+
+# ---- the stream's own faults
+
+def stream_cases():
+    yield Case('an empty stream', b'')
+    yield Case('the offset is the length', LISTING, at=64)
+    yield Case('the offset is past the end', LISTING, at=65)
+    yield Case('an offset past the end of an empty stream', b'', at=1)
+    yield Case('an offset far past the end', LISTING, at=2 ** 63 - 1)
+    yield Case('an offset in the middle', LISTING, at=4)
+    yield Case('an offset within a command', LISTING, at=1)
+    for byte in (0, 4, 255):
+        yield Case('unknown byte %d' % byte, bytes([byte]) + LISTING)
+    yield Case('an unknown byte after commands', LISTING + bytes([7]) + SOLVE)
+    yield Case('an unknown byte goes before no sizes', bytes([9, 2, 3]))
+    for end in range(1, len(LISTING)):
+        yield Case('the listing\'s first %d bytes' % end, LISTING[:end])
+    yield Case('a size cut short goes before sizes again', size(1, 1, 0) + size(0, 0, 0)[:3])
+    yield Case('a pose cut short goes before no sizes', pose(0, 0, GOOD)[:58])
+    yield Case('a pose cut short goes before its faults', size(1, 1, 0) + pose(9, 9, (math.nan,) * 7)[:58])
+    yield Case('65536 bytes', bytes([5]) * 65536)
+    yield Case('65537 bytes', bytes([5]) * 65537)
+    yield Case('65537 bytes go before a wrong length', LISTING.ljust(65537, b'\3'), buffer=7167)
+
+
+# ---- lengths and records that do not fit
+
+def record_cases():
+    for label, lengths in [
+        ('a buffer of one float fewer', {'buffer': 7167}),
+        ('a buffer of one float more', {'buffer': 7169}),
+        ('a first answer of one float fewer', {'first': 559}),
+        ('a first answer of one float more', {'first': 561}),
+        ('a second answer of one byte fewer', {'second': 31}),
+        ('a second answer of one byte more', {'second': 33}),
+    ]:
+        yield Case(label, LISTING, **lengths)
+    yield Case('a wrong length goes before the end', b'', buffer=0)
+    yield Case('a wrong length goes before an offset past the end', b'', at=5, second=0)
+    yield Case('a wrong length goes before an unknown byte', b'\0', first=0)
+    for label, record in [
+        ('cameras without views', {'cameras': 1}),
+        ('a reference without sizes', {'reference': 1}),
+        ('views without cameras', {'views': 1}),
+        ('a record of 65 views', {'views': 65, 'cameras': 1}),
+        ('a record of 17 cameras', {'views': 1, 'cameras': 17}),
+        ('a record whose reference is its camera count', {'views': 1, 'cameras': 2, 'reference': 2}),
+        ('a mask without sizes', {'masks': [1]}),
+        ('a mask with a view past the last', {'views': 3, 'cameras': 2, 'masks': [7, 8]}),
+        ('a mask of a camera past the last', {'views': 3, 'cameras': 2, 'masks': [7, 7, 1]}),
+        ('a mask of the last camera past the sizes', {'views': 3, 'cameras': 15, 'masks': [7] * 15 + [2 ** 63]}),
+        ('a record with every view', {'views': 64, 'cameras': 2, 'masks': [2 ** 64 - 1, 2 ** 63]}),
+        ('a record with poses', {'views': 3, 'cameras': 2, 'reference': 1, 'masks': [7, 5]}),
+        ('a record with sizes', {'views': 1, 'cameras': 1}),
+    ]:
+        yield Case(label, SOLVE, **record)
+    yield Case('an impossible record goes before an offset past the end', SOLVE, at=2, cameras=1)
+
+
+# ---- poses
+
+def pose_cases():
+    sized = size(3, 2, 0)
+    for view, camera in [(3, 0), (0, 2), (3, 2), (255, 255)]:
+        yield Case('view %d, camera %d of 3 and 2' % (view, camera), sized + pose(view, camera, GOOD))
+    yield Case('outside the sizes goes before not finite', sized + pose(3, 0, (math.nan,) * 7))
+    yield Case('a cell held already', sized + pose(2, 1, GOOD) + pose(2, 1, GOOD))
+    yield Case('held already goes before not finite', sized + pose(1, 1, GOOD) + pose(1, 1, (math.inf,) * 7))
+    for number in (math.nan, math.inf, -math.inf):
+        for place in range(7):
+            yield Case('number %d is %s' % (place, number), sized + pose(2, 1, [number if n == place else GOOD[n] for n in range(7)]))
+    yield Case('a refused pose is not held', sized + pose(1, 1, (math.nan,) * 7) + pose(1, 1, GOOD))
+    extremes = (1.7976931348623157e308, -5e-324, -0.0, 2.2250738585072014e-308, 0.1, -1e-300, 1e300)
+    yield Case('the least and the largest numbers', size(1, 1, 0) + pose(0, 0, extremes) + SOLVE)
+
+
+# ---- rigs
+
+def rig_of(cells, views, cameras, reference=0, numbers=lambda v, c: GOOD):
+    """A stream that names the cells, (view, camera) each, and then has them solved."""
+    return size(views, cameras, reference) + b''.join(pose(v, c, numbers(v, c)) for v, c in cells) + SOLVE
+
+
+def numbered(view, camera):
+    """A pose that differs from cell to cell, of whole and half numbers."""
+    return (view + 0.5, camera - 1.0, 2.0, 0.5, -0.5, 0.5 if view % 2 else -0.5, 0.5 if camera % 2 else -0.5)
+
+
+def rig_cases():
+    yield Case('two cameras never together', rig_of([(0, 0), (1, 1)], 2, 2))
+    yield Case('cameras without a chain go before an empty view', rig_of([(0, 0), (1, 1)], 3, 2))
+    yield Case('cameras 1, 3 and 15 without a chain', rig_of([(0, c) for c in range(16) if c not in (1, 3, 15)], 1, 16))
+    yield Case('no poses at all', rig_of([], 1, 2))
+    yield Case('one camera without poses', rig_of([], 1, 1))
+    yield Case('the lowest empty view', rig_of([(0, 0), (0, 1), (2, 0)], 5, 2))
+    one_each = [(0, 0), (0, 1), (1, 0), (1, 2), (2, 3), (2, 1), (3, 3), (3, 2)]
+    yield Case('the same number of views: the lowest parent', rig_of(one_each, 4, 4, 0, numbered))
+    yield Case('more views: the parent with most', rig_of(one_each + [(4, 3), (4, 2)], 5, 4, 0, numbered))
+    forty = [(0, 0), (0, 3), (1, 0), (1, 1)] + [(v, c) for v in range(2, 42) for c in (1, 3)] + [(42, 0), (42, 2)]
+    yield Case('the nearest parent goes before most views', rig_of(forty, 43, 4, 0, numbered))
+    path = [(v, c) for v in range(15) for c in (v, v + 1)]
+    yield Case('sixteen cameras in a row from the first', rig_of(path, 15, 16, 0, numbered))
+    yield Case('sixteen cameras in a row from the last', rig_of(path, 15, 16, 15, numbered))
+    yield Case('sixteen cameras in a row from the middle', rig_of(path, 15, 16, 7, numbered))
+    yield Case('solved twice', rig_of([(0, 0)], 1, 1) + SOLVE)
+    yield Case('poses after a solved rig', rig_of([(0, 0), (0, 1), (1, 1)], 2, 2, 0, numbered) + pose(1, 0, GOOD) + pose(0, 0, GOOD) + SOLVE)
+    turn = math.sqrt(0.5)
+    for label, rotations in [
+        ('a rotation and its negation', [(0.0, 0.0, 0.0, 1.0), (0.0, 0.0, 0.0, -1.0)]),
+        ('a dot product of 0 is not turned', [(1.0, 0.0, 0.0, 0.0), (0.0, 1.0, 0.0, 0.0)]),
+        ('rotations that cancel', [(0.0, 0.0, 1.0, 0.0), (0.0, 0.0, 0.0, 1.0), (0.0, 0.0, 1.0, -1.0)]),
+        ('a zero rotation', [(0.0, 0.0, 0.0, 0.0)]),
+        ('rotations that are no unit quaternions', [(3.0, 0.0, 4.0, 0.0), (0.0, 0.1, 0.2, 0.3)]),
+        ('a rotation too small for its squared norm', [(1e-170, 0.0, 0.0, 0.0), (0.0, 0.0, 0.0, 1e-170)]),
+        ('a quarter turn', [(turn, 0.0, 0.0, turn), (0.0, turn, 0.0, -turn)]),
+    ]:
+        numbers = lambda v, c: (1.0, 2.0, 3.0) + (rotations[v] if c == 1 else (0.0, 0.0, 0.0, 1.0))
+        yield Case(label, rig_of([(v, c) for v in range(len(rotations)) for c in (0, 1)], len(rotations), 2, 0, numbers))
+    huge = lambda v, c: (1e308, -1e308, 1e308, 1e160, 1e160, 1e160, 1e160) if c else GOOD
+    yield Case('an overflow travels on', rig_of([(0, 0), (0, 1), (1, 0), (1, 1)], 2, 2, 0, huge))
+    full = [(v, c) for v in range(64) for c in range(16)]
+    yield Case('64 views of 16 cameras', rig_of(full, 64, 16, 15, drawn(random.Random(64))))
+
+
+def drawn(numbers):
+    return lambda v, c: [numbers.uniform(-1.0, 1.0) for _ in range(7)]
+
+
+def drawn_cases():
+    """Grids drawn at random: many are solved, some are refused with 8 or 9."""
+    numbers = random.Random(16)
+    for n in range(24):
+        views, cameras = numbers.randint(1, 7), numbers.randint(1, 6)
+        cells = [(v, c) for v in range(views) for c in range(cameras) if numbers.random() < 0.6]
+        numbers.shuffle(cells)
+        yield Case('a rig drawn at random, number %d' % n, rig_of(cells, views, cameras, numbers.randrange(cameras), drawn(numbers)))
+
+
+def cases():
+    for group in (size_cases, stream_cases, record_cases, pose_cases, rig_cases, drawn_cases):
+        yield from group()

@@ -1,0 +1,106 @@
+#!/usr/bin/env python3
+"""Makes the sample streams beside this file, and what the programs must print, by `oracle.py`.
+
+    python3 samples/make.py
+
+writes samples/*.stream and samples/*.listing, and the files stdin and stdout of crates/rig and crates/replies.
+
+A stream is a file for the program's standard input:  rig < samples/five_cameras.stream
+"""
+
+import math
+import os
+import random
+
+import cases
+import oracle
+from commands import SOLVE, pose, size
+
+HERE = os.path.dirname(os.path.abspath(__file__))
+
+
+# ---- the listing of document 01
+
+def listing_stream():
+    return cases.LISTING
+
+
+# ---- five cameras on a rig, six views of a target
+
+def turned(i, j, k):
+    """The quaternion i, j, k, w of a turn, from its vector part over its scalar part. It takes roots and quotients alone, so that
+    every machine makes the same samples."""
+    length = math.sqrt(i * i + j * j + k * k + 1.0)
+    return (i / length, j / length, k / length, 1.0 / length)
+
+
+def five_cameras_stream():
+    """Cameras 3 and 4 never see the target together with reference 0: their chains go over 1 and 2.
+
+    Camera 3 sees it twice with camera 2 and once with camera 1, so its parent is 2. Camera 4 sees it with 1 and with 3.
+    Each pose is what the camera would measure, with a little noise in all seven numbers.
+    """
+    noise = random.Random(2026)
+    rig_se3_cam = [
+        oracle.IDENTITY,
+        (0.12, 0.0, 0.01) + turned(0.0, 0.08, 0.0),
+        (-0.12, 0.0, 0.01) + turned(0.0, -0.08, 0.0),
+        (-0.25, 0.02, -0.05) + turned(0.0, -0.5, -0.05),
+        (0.25, 0.02, -0.05) + turned(0.0, 0.5, -0.05),
+    ]
+    rig_se3_target = [
+        (0.1 * v - 0.25, 0.05 * (v % 3), 1.0 + 0.1 * v) + turned(0.2 - 0.05 * v, 0.1 * v, 0.03) for v in range(6)
+    ]
+    seen = [(0, 1, 2), (0, 1), (0, 2), (1, 3, 4), (2, 3), (2, 3, 4)]
+    stream = size(6, 5, 0)
+    for v, cameras in enumerate(seen):
+        for c in cameras:
+            measured = oracle.product(oracle.inverse(rig_se3_cam[c]), rig_se3_target[v])
+            stream += pose(v, c, [a + noise.uniform(-1e-4, 1e-4) for a in measured])
+    return stream + SOLVE
+
+
+# ---- a stream in which every second command is refused
+
+def refused_stream():
+    good = (0.5, -0.25, 2.0, 0.0, 0.0, 0.0, 1.0)
+    bad = good[:6] + (math.nan,)
+    return (
+        SOLVE                       # 21
+        + size(2, 2, 2)             # 3
+        + size(2, 2, 1)
+        + size(2, 2, 1)             # 22
+        + pose(0, 0, good)
+        + pose(0, 0, good)          # 23
+        + pose(2, 0, good)          # 12
+        + pose(1, 1, bad)           # 7
+        + SOLVE                     # 8: camera 0 shares no view with reference 1
+        + pose(0, 1, good)
+        + SOLVE                     # 9: view 1 is empty
+        + pose(1, 0, good)
+        + SOLVE
+        + bytes([4])                # 10
+        + SOLVE                     # not read any more
+    )
+
+
+def write(path, data):
+    path = os.path.join(HERE, path)
+    os.makedirs(os.path.dirname(path), exist_ok=True)
+    with open(path, 'wb') as file:
+        file.write(data)
+
+
+def main():
+    streams = {'listing': listing_stream(), 'five_cameras': five_cameras_stream(), 'refused': refused_stream()}
+    for name, stream in streams.items():
+        write(name + '.stream', stream)
+        write(name + '.listing', oracle.rig(stream).encode())
+    write('../crates/rig/stdin', streams['listing'])
+    write('../crates/rig/stdout', oracle.rig(streams['listing']).encode())
+    write('../crates/replies/stdin', b''.join(case.encode() for case in cases.cases()))
+    write('../crates/replies/stdout', ''.join(case.expected() for case in cases.cases()).encode())
+
+
+if __name__ == '__main__':
+    main()

@@ -1,0 +1,300 @@
+//! Streams of commands: what each call must answer, from document 01, "A stream arrives", with the Rust under Solve; and streams made at
+//! random, and damaged.
+
+use crate::grid::{near_identity, pose, Grid, Pose, MAX_CAMERAS, MAX_VIEWS, POSE_FLOATS};
+use crate::oracle::{verdict, Verdict};
+use random::Random;
+
+pub const RECORD_WORDS: usize = 19;
+pub const BUFFER_FLOATS: usize = 7168;
+pub const FIRST_FLOATS: usize = 560;
+pub const SECOND_BYTES: usize = 32;
+pub const MAX_STREAM: usize = 65536;
+
+/// All that a call is lent and can change.
+#[derive(Clone, Debug)]
+pub struct State {
+    pub record: Vec<u64>,
+    pub buffer: Vec<f64>,
+    pub transforms: Vec<f64>,
+    pub chains: Vec<u8>,
+}
+
+impl State {
+    pub fn fresh() -> State {
+        State {
+            record: vec![0; RECORD_WORDS],
+            buffer: vec![0.0; BUFFER_FLOATS],
+            transforms: vec![0.0; FIRST_FLOATS],
+            chains: vec![0; SECOND_BYTES],
+        }
+    }
+
+    fn views(&self) -> usize {
+        self.record[16] as usize
+    }
+
+    fn cameras(&self) -> usize {
+        self.record[17] as usize
+    }
+
+    fn holds(&self, view: usize, camera: usize) -> bool {
+        self.record[camera] >> view & 1 == 1
+    }
+
+    /// Whether accepted commands can leave the record.
+    fn is_possible(&self) -> bool {
+        if self.record.len() != RECORD_WORDS {
+            return false;
+        }
+        let [views, cameras, reference] = [self.record[16], self.record[17], self.record[18]];
+        let sized = (1..=MAX_VIEWS as u64).contains(&views) && (1..=MAX_CAMERAS as u64).contains(&cameras) && reference < cameras;
+        let fresh = views == 0 && cameras == 0 && reference == 0;
+        (sized || fresh)
+            && (0..MAX_CAMERAS).all(|c| if (c as u64) < cameras { views == 64 || self.record[c] >> views == 0 } else { self.record[c] == 0 })
+    }
+
+    /// The grid that masks and buffer hold.
+    fn grid(&self) -> Grid {
+        let (views, cameras) = (self.views(), self.cameras());
+        let held: Vec<bool> = (0..views * cameras).map(|cell| self.holds(cell / cameras, cell % cameras)).collect();
+        Grid::whole(views, cameras, self.record[18] as usize, &held, |cell| {
+            let at = cell_start(cell / cameras, cell % cameras);
+            self.buffer[at..at + POSE_FLOATS].try_into().unwrap()
+        })
+    }
+}
+
+fn cell_start(view: usize, camera: usize) -> usize {
+    POSE_FLOATS * (view * MAX_CAMERAS + camera)
+}
+
+/// What a call answers: a code as the library gives it, and the offset of the next command.
+#[derive(Clone, Copy, Debug, PartialEq, Eq)]
+pub struct Answer {
+    pub code: u64,
+    pub next: usize,
+}
+
+pub const END: u64 = 0;
+pub const ACCEPTED: u64 = 1;
+pub const SOLVED: u64 = 2;
+
+fn refusal(number: u32, detail: usize) -> u64 {
+    (number as u64) << 32 | detail as u64
+}
+
+/// One call, as document 01 has it, on the state that it changes.
+pub fn call(state: &mut State, stream: &[u8], at: usize) -> Answer {
+    let end = stream.len();
+    let stop = |number, detail| Answer { code: refusal(number, detail), next: end };
+    if end > MAX_STREAM {
+        return stop(13, 0);
+    }
+    if state.buffer.len() != BUFFER_FLOATS
+        || state.transforms.len() < FIRST_FLOATS
+        || state.chains.len() < SECOND_BYTES
+        || !state.is_possible()
+    {
+        return stop(5, 0);
+    }
+    if at > end {
+        return stop(11, end);
+    }
+    let Some(&byte) = stream.get(at) else {
+        return Answer { code: END, next: at };
+    };
+    let width = match byte {
+        1 => 4,
+        2 => 59,
+        3 => 1,
+        _ => return stop(10, byte as usize),
+    };
+    let Some(command) = stream.get(at..at + width) else {
+        return stop(11, at);
+    };
+    let code = match byte {
+        1 => size(state, command),
+        2 => place(state, command),
+        _ => solve(state),
+    };
+    Answer { code, next: at + width }
+}
+
+fn size(state: &mut State, command: &[u8]) -> u64 {
+    if state.views() != 0 {
+        return refusal(22, 0);
+    }
+    let [_, views, cameras, reference] = *command else { unreachable!() };
+    match (views, cameras) {
+        (0, _) => refusal(1, 0),
+        (65.., _) => refusal(2, 0),
+        (_, 0) => refusal(1, 0),
+        (_, 17..) => refusal(2, 0),
+        _ if reference >= cameras => refusal(3, 0),
+        _ => {
+            state.record[16..].copy_from_slice(&[views as u64, cameras as u64, reference as u64]);
+            ACCEPTED
+        }
+    }
+}
+
+fn place(state: &mut State, command: &[u8]) -> u64 {
+    if state.views() == 0 {
+        return refusal(21, 0);
+    }
+    let (view, camera) = (command[1] as usize, command[2] as usize);
+    let named = view * 256 + camera;
+    if view >= state.views() || camera >= state.cameras() {
+        return refusal(12, named);
+    }
+    if state.holds(view, camera) {
+        return refusal(23, named);
+    }
+    let offered: Pose = std::array::from_fn(|i| f64::from_le_bytes(command[3 + 8 * i..11 + 8 * i].try_into().unwrap()));
+    if offered.iter().any(|x| !x.is_finite()) {
+        return refusal(7, view * state.cameras() + camera);
+    }
+    state.record[camera] |= 1 << view;
+    let at = cell_start(view, camera);
+    state.buffer[at..at + POSE_FLOATS].copy_from_slice(&offered);
+    ACCEPTED
+}
+
+fn solve(state: &mut State) -> u64 {
+    if state.views() == 0 {
+        return refusal(21, 0);
+    }
+    match verdict(&state.grid()) {
+        Verdict::Refused { number, detail } => refusal(number, detail as usize),
+        Verdict::Solved { transforms, chains } => {
+            state.transforms[..transforms.len()].copy_from_slice(&transforms);
+            state.chains[..chains.len()].copy_from_slice(&chains);
+            SOLVED
+        }
+    }
+}
+
+/// The library's call on the same state.
+pub fn library(state: &mut State, stream: &[u8], at: usize) -> Answer {
+    let mut next = usize::MAX;
+    let code = unsafe {
+        placer::ffi::placer_step(
+            state.record.as_mut_ptr(),
+            state.record.len(),
+            stream.as_ptr(),
+            stream.len(),
+            at,
+            state.buffer.as_mut_ptr(),
+            state.buffer.len(),
+            state.transforms.as_mut_ptr(),
+            state.transforms.len(),
+            state.chains.as_mut_ptr(),
+            state.chains.len(),
+            &mut next,
+        )
+    };
+    Answer { code, next }
+}
+
+/// The first place at which two states differ, NaNs being one.
+pub fn difference(ours: &State, expected: &State) -> Option<String> {
+    if ours.record != expected.record {
+        return Some(format!("the record is {:x?}, and {:x?} was expected", ours.record, expected.record));
+    }
+    let floats = |what: &str, a: &[f64], b: &[f64]| {
+        let at = (0..a.len()).find(|&i| a[i].to_bits() != b[i].to_bits() && !(a[i].is_nan() && b[i].is_nan()))?;
+        Some(format!("{what}[{at}] is {:?}, and {:?} was expected", a[at], b[at]))
+    };
+    floats("the buffer", &ours.buffer, &expected.buffer)
+        .or_else(|| floats("the first answer", &ours.transforms, &expected.transforms))
+        .or_else(|| (ours.chains != expected.chains).then(|| format!("the second answer is {:?}, and {:?} was expected", ours.chains, expected.chains)))
+}
+
+// ---- streams
+
+pub fn size_command(stream: &mut Vec<u8>, views: usize, cameras: usize, reference: usize) {
+    stream.extend([1, views as u8, cameras as u8, reference as u8]);
+}
+
+pub fn pose_command(stream: &mut Vec<u8>, view: usize, camera: usize, pose: Pose) {
+    stream.extend([2, view as u8, camera as u8]);
+    pose.iter().for_each(|x| stream.extend(x.to_le_bytes()));
+}
+
+pub fn solve_command(stream: &mut Vec<u8>) {
+    stream.push(3);
+}
+
+/// A stream of good commands, mostly: few views and cameras, poses in any order, Solve at the end and at times before.
+pub fn random_stream(random: &mut Random, most_views: usize, most_cameras: usize) -> Vec<u8> {
+    let (views, cameras) = (random.between(1, most_views), random.between(1, most_cameras));
+    let mut stream = Vec::new();
+    size_command(&mut stream, views, cameras, random.below(cameras));
+    let mut cells: Vec<usize> = (0..views * cameras).collect();
+    random.shuffle(&mut cells);
+    let kept = if random.once_in(2) { cells.len() } else { random.between(0, cells.len()) };
+    let hard = random.once_in(4);
+    for &cell in &cells[..kept] {
+        let kinds: Vec<usize> = if hard { (0..12).collect() } else { vec![0, 1] };
+        let offered = if random.once_in(3) { near_identity(random) } else { pose(random, &kinds) };
+        pose_command(&mut stream, cell / cameras, cell % cameras, offered);
+        if random.once_in(12) {
+            solve_command(&mut stream);
+        }
+    }
+    solve_command(&mut stream);
+    if random.once_in(4) && kept < cells.len() {
+        pose_command(&mut stream, cells[kept] / cameras, cells[kept] % cameras, near_identity(random));
+        solve_command(&mut stream);
+    }
+    stream
+}
+
+/// Damage: bits flipped, bytes set, parts cut out, doubled, moved, joined to parts of another stream, the end cut off.
+pub fn damage(random: &mut Random, stream: &mut Vec<u8>, other: &[u8]) {
+    for _ in 0..random.between(1, 4) {
+        let length = stream.len();
+        if length == 0 {
+            stream.extend_from_slice(&other[..random.below(other.len() + 1)]);
+            continue;
+        }
+        let at = random.below(length);
+        match random.below(10) {
+            0 => stream[at] ^= 1 << random.below(8),
+            1 => stream[at] = random.bits() as u8,
+            2 => stream[at] = random.below(4) as u8,
+            3 => stream.truncate(at),
+            4 => {
+                stream.remove(at);
+            }
+            5 => stream.insert(at, random.below(5) as u8),
+            6 => {
+                let end = random.between(at, length);
+                stream.drain(at..end);
+            }
+            7 => {
+                let end = random.between(at, length.min(at + 120));
+                let part = stream[at..end].to_vec();
+                stream.splice(at..at, part);
+            }
+            8 => {
+                let from = random.below(other.len() + 1);
+                let part = other[from..random.between(from, other.len())].to_vec();
+                stream.splice(at..at, part);
+            }
+            // A whole command more, of any kind, where a command may begin.
+            _ => {
+                let mut command = Vec::new();
+                match random.below(4) {
+                    0 => size_command(&mut command, random.below(70), random.below(20), random.below(20)),
+                    1 => solve_command(&mut command),
+                    2 => pose_command(&mut command, random.below(70), random.below(20), near_identity(random)),
+                    _ => pose_command(&mut command, random.below(3), random.below(3), [f64::NAN; POSE_FLOATS]),
+                }
+                let at = if random.once_in(2) { 4.min(length) } else { length };
+                stream.splice(at..at, command);
+            }
+        }
+    }
+}
