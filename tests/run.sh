@@ -13,6 +13,7 @@ if [ -d "$source_folder" ] && command -v cargo >/dev/null 2>&1; then
   sh tests/compare.sh "$source_folder" 3000
   sh tests/fuzz.sh "$source_folder" 3000
   sh tests/roots.sh 200000 1 4096
+  sh tests/bindings.sh
   rt staticlib averaging >/dev/null
   sh tests/averaging.sh
 else
