@@ -13,7 +13,8 @@ if [ -d "$source_folder" ] && command -v cargo >/dev/null 2>&1; then
   sh tests/compare.sh "$source_folder" 3000
   sh tests/fuzz.sh "$source_folder" 3000
   sh tests/roots.sh 200000 1 4096
-  sh tests/bindings.sh
+  sh tests/bindings.sh >target/bindings.log 2>&1 || { cat target/bindings.log; exit 1; }
+  echo "bindings: every export with every refusal, as expected"
   rt staticlib averaging >/dev/null
   sh tests/averaging.sh
 else
