@@ -1,4 +1,5 @@
-/* The rig placer for C: the exports of libplacer.a, which `rt staticlib placer` makes for x86-64 Linux. Link it alone; it calls nothing.
+/* The rig placer for C: the exports of libplacer.a, which `rt staticlib placer` makes for x86-64 Linux. It calls
+ * nothing but memcpy.
  *
  * A slice passes as a pointer and a length, the length in elements and not in bytes. Where the length is 0 the pointer is not followed, and
  * NULL will do. Otherwise it is aligned as its type asks, and its length in bytes is at most PTRDIFF_MAX. What is lent to be written (not
@@ -58,14 +59,15 @@ enum placer_refusal {
 double placer_sqrt(double x);
 
 /* The average of 1 to 64 poses, into the first seven doubles of `mean`. Refused: no floats with 1, more than 64 poses with 2, floats that
- * are not seven for each pose or a mean of fewer than seven with 5, a number that is not finite with 7, in this order. */
+ * are not seven for each pose or a mean of fewer than seven with 5 (so 449 to 454 floats are refused with 2), a number that is not finite with 7, in this order. */
 uint64_t placer_average(const double *poses, size_t poses_length, double *mean, size_t mean_length);
 
-/* The product of poses, in order, into the first seven doubles of `product`; of none the identity. Refused with 5: floats that are not seven
+/* The product of poses, in order, into the first seven doubles of `product`; of none the identity. Numbers that are not finite are taken.
+ * Refused with 5: floats that are not seven
  * for each pose, or a product of fewer than seven. */
 uint64_t placer_product(const double *poses, size_t poses_length, double *product, size_t product_length);
 
-/* The inverse of each pose, each at its own place in `inverses`. Refused with 5: floats that are not seven for each pose, or fewer
+/* The inverse of each pose, each at its own place in `inverses`. Numbers that are not finite are taken. Refused with 5: floats that are not seven for each pose, or fewer
  * inverses than poses. */
 uint64_t placer_inverses(const double *poses, size_t poses_length, double *inverses, size_t inverses_length);
 
@@ -73,7 +75,7 @@ uint64_t placer_inverses(const double *poses, size_t poses_length, double *inver
  * those of an empty one ignored; the reference camera. Solved, the reply is 0, and the answers hold
  *   transforms: seven doubles for each camera, its pose in the frame of the reference, and then for each view, its target's pose there;
  *   chains:     for each camera its parent and the number of links to the reference, whose own are itself and 0.
- * They need 7 * (cameras + views) doubles and 2 * cameras bytes, and keep what they have beyond. Refused: 1 to 9. */
+ * They need 7 * (cameras + views) doubles and 2 * cameras bytes, and keep what they have beyond. Refused: 1 to 9, in this order. */
 uint64_t placer_estimate(const uint32_t *counts, size_t counts_length, const uint8_t *marks, size_t marks_length, const double *floats,
                          size_t floats_length, uint32_t reference, double *transforms, size_t transforms_length, uint8_t *chains,
                          size_t chains_length);
@@ -87,7 +89,8 @@ uint64_t placer_estimate(const uint32_t *counts, size_t counts_length, const uin
  *   0x01 Size:  views, cameras, reference, one byte each
  *   0x02 Pose:  view, camera, one byte each, then seven doubles, low byte first
  *   0x03 Solve
- * A session is the record, PLACER_RECORD_WORDS words that are all 0 at first, and the buffer, of exactly PLACER_BUFFER_FLOATS doubles, which
+ * A session is the record, PLACER_RECORD_WORDS words that are all 0 at first (one mask of views for each camera, bit v for view v; then at 16,
+ * 17 and 18 the views, the cameras and the reference), and the buffer, of exactly PLACER_BUFFER_FLOATS doubles, which
  * the caller keeps from call to call and need not fill. Both answers have at least PLACER_FIRST_FLOATS and PLACER_SECOND_BYTES. Refused: 13 and
  * then 5 before all else; 10 and 11; 21 and 22; 1, 2 and 3 by Size; 12, 23 and 7 by Pose; 7, 8 and 9 by Solve. After 5, 10, 11 and 13 `next` is
  * the stream's length, and after any other the offset of the next command. */

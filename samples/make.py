@@ -84,6 +84,21 @@ def refused_stream():
     )
 
 
+# ---- the program's own test: document 01's listing, then refusals that go on, the listing again, and one that ends the stream
+
+def program_stream():
+    seen = (1.0, 0.0, 0.0, 0.0, 0.0, 0.0, 1.0)
+    return (
+        listing_stream()
+        + size(1, 1, 0)             # 22
+        + pose(0, 0, seen)          # 23
+        + pose(1, 0, seen)          # 12
+        + SOLVE
+        + bytes([9])                # 10
+        + SOLVE                     # not read any more
+    )
+
+
 def write(path, data):
     path = os.path.join(HERE, path)
     os.makedirs(os.path.dirname(path), exist_ok=True)
@@ -96,8 +111,8 @@ def main():
     for name, stream in streams.items():
         write(name + '.stream', stream)
         write(name + '.listing', oracle.rig(stream).encode())
-    write('../crates/rig/stdin', streams['listing'])
-    write('../crates/rig/stdout', oracle.rig(streams['listing']).encode())
+    write('../crates/rig/stdin', program_stream())
+    write('../crates/rig/stdout', oracle.rig(program_stream()).encode())
     write('../crates/replies/stdin', b''.join(case.encode() for case in cases.cases()))
     write('../crates/replies/stdout', ''.join(case.expected() for case in cases.cases()).encode())
 

@@ -6,7 +6,7 @@ set -eu
 [ $# -ge 1 ] || { echo "usage: $0 DRIVER [SOURCE_FOLDER]" >&2; exit 2; }
 root=$(cd "$(dirname "$0")/.." && pwd)
 command -v cargo >/dev/null || { echo "no cargo on this machine" >&2; exit 2; }
-[ -f "$root/target/staticlib/libplacer.a" ] || { echo "no target/staticlib/libplacer.a: run 'rt staticlib placer' first" >&2; exit 2; }
+sh "$root/tests/library.sh" placer
 extrinsics=
 if [ $# -ge 2 ]; then
     extrinsics=$(find "$2" -name extrinsics.rs -path '*vision-calibration-linear*' | head -n 1)

@@ -1,5 +1,5 @@
 #!/bin/sh
-# Compares the library's square root with the machine's own: roots.sh [PATTERNS] [SEED] [SQUARES]. Needs cargo, and `rt staticlib placer` first.
+# Compares the library's square root with the machine's own: roots.sh [PATTERNS] [SEED] [SQUARES]. Needs cargo and rt.
 # PATTERNS are the random ones, beside every exponent, every perfect square (up to SQUARES, where it is given) and the hardest midpoints.
 set -eu
 here=$(cd "$(dirname "$0")" && pwd)

@@ -276,7 +276,7 @@ fn main() {
     assert_eq!((read_by_library(&stream), read_plainly(&stream)), ((2, 96), (2, 96)));
     compare(
         rounds,
-        "stream of 65,536 bytes: 1,121 commands, two of them Solve",
+        "stream of 65,536 bytes: 1,123 commands, two of them Solve",
         1,
         || keep(read_by_library(black_box(&stream))),
         || keep(read_plainly(black_box(&stream))),

@@ -1,6 +1,7 @@
 //! Rig extrinsics from camera-target poses: safe Rust over libplacer.a, whose every function is proved to answer what its contract says.
 //!
-//! A pose is seven doubles: a translation x, y, z, then a quaternion i, j, k, w. Nothing here allocates but [`place_rig`] and [`inverses`].
+//! A pose is seven doubles: a translation x, y, z, then a quaternion i, j, k, w. [`Session`], [`place_rig`], [`inverses`] and [`cameras_in`] allocate;
+//! the library itself never does.
 
 #![warn(missing_docs)]
 
@@ -88,7 +89,7 @@ pub struct Refusal {
 }
 
 impl Refusal {
-    /// What an export's reply says: 0 is no refusal.
+    /// What the reply of an export but `placer_step` says, whose 1 and 2 are no refusals: 0 is none.
     pub fn from_reply(reply: u64) -> Result<(), Refusal> {
         match reply {
             0 => Ok(()),
@@ -105,13 +106,13 @@ impl fmt::Display for Refusal {
             2 => write!(f, "more than 64 views or poses, or more than 16 cameras"),
             3 => write!(f, "the reference is not below the camera count"),
             4 => write!(f, "view {detail} has another camera count than view 0"),
-            5 => write!(f, "a length does not fit"),
+            5 => write!(f, "a length does not fit, or no accepted commands leave such a session record"),
             6 => write!(f, "cell {detail} has a mark above 1"),
             7 => write!(f, "pose {detail} has a number that is not finite"),
             8 => write!(f, "no chain of shared views ties these cameras to the reference: {:?}", cameras_in(detail)),
             9 => write!(f, "view {detail} has no poses"),
             10 => write!(f, "no command begins with byte {detail}"),
-            11 => write!(f, "the stream ends within the command at offset {detail}"),
+            11 => write!(f, "the stream ends within the command at offset {detail}, or, where that is its length, the offset is past its end"),
             12 => write!(f, "view {}, camera {} is outside the rig", detail >> 8, detail & 0xff),
             13 => write!(f, "the stream is longer than 65,536 bytes"),
             21 => write!(f, "no Size was accepted yet"),

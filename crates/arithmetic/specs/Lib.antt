@@ -1,6 +1,3 @@
 -- The definitions that the contracts of `arithmetic` cite, one module a concept. Definitions only; their laws are in proofs/.
 pub mod Double
-pub mod Root
-pub mod RootSteps
 pub mod Pose
-pub mod Average

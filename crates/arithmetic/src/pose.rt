@@ -39,7 +39,7 @@ pub fn is_finite(x: f64) -> bool
 }
 
 impl Vec3 {
-    pub(crate) fn zeros() -> Vec3
+    pub fn zeros() -> Vec3
         ensures { λ r. ⌜ r ≡ zeroVec ⌝ }
     {
         Vec3 {
@@ -49,7 +49,7 @@ impl Vec3 {
         }
     }
 
-    pub(crate) fn add(self, b: Vec3) -> Vec3
+    pub fn add(self, b: Vec3) -> Vec3
         ensures { λ r. ⌜ r ≡ addVec self b ⌝ }
     {
         Vec3 {
@@ -59,7 +59,7 @@ impl Vec3 {
         }
     }
 
-    pub(crate) fn scale(self, s: f64) -> Vec3
+    pub fn scale(self, s: f64) -> Vec3
         ensures { λ r. ⌜ r ≡ scaleVec s self ⌝ }
     {
         Vec3 {
@@ -69,7 +69,7 @@ impl Vec3 {
         }
     }
 
-    pub(crate) fn neg(self) -> Vec3
+    pub fn neg(self) -> Vec3
         ensures { λ r. ⌜ r ≡ negVec self ⌝ }
     {
         Vec3 {
@@ -79,7 +79,7 @@ impl Vec3 {
         }
     }
 
-    pub(crate) fn cross(self, b: Vec3) -> Vec3
+    pub fn cross(self, b: Vec3) -> Vec3
         ensures { λ r. ⌜ r ≡ cross self b ⌝ }
     {
         Vec3 {
@@ -89,7 +89,7 @@ impl Vec3 {
         }
     }
 
-    pub(crate) fn is_finite(self) -> bool
+    pub fn is_finite(self) -> bool
         ensures { λ r. ⌜ r ≡ finiteVec self ⌝ }
     {
         is_finite(self.x) & is_finite(self.y) & is_finite(self.z)
@@ -97,7 +97,7 @@ impl Vec3 {
 }
 
 impl Quaternion {
-    pub(crate) fn identity() -> Quaternion
+    pub fn identity() -> Quaternion
         ensures { λ r. ⌜ r ≡ identityQuat ⌝ }
     {
         Quaternion {
@@ -108,7 +108,7 @@ impl Quaternion {
         }
     }
 
-    pub(crate) fn vector(self) -> Vec3
+    pub fn vector(self) -> Vec3
         ensures { λ r. ⌜ r ≡ vectorPart self ⌝ }
     {
         Vec3 {
@@ -119,7 +119,7 @@ impl Quaternion {
     }
 
     // Hamilton's product, each number summed from left to right.
-    pub(crate) fn product(self, b: Quaternion) -> Quaternion
+    pub fn product(self, b: Quaternion) -> Quaternion
         ensures { λ r. ⌜ r ≡ mulQuat self b ⌝ }
     {
         Quaternion {
@@ -130,7 +130,7 @@ impl Quaternion {
         }
     }
 
-    pub(crate) fn conjugate(self) -> Quaternion
+    pub fn conjugate(self) -> Quaternion
         ensures { λ r. ⌜ r ≡ conjugate self ⌝ }
     {
         Quaternion {
@@ -142,7 +142,7 @@ impl Quaternion {
     }
 
     // v rotated: t = 2 × (vector part × v); then w × t, plus vector part × t, plus v.
-    pub(crate) fn rotate(self, v: Vec3) -> Vec3
+    pub fn rotate(self, v: Vec3) -> Vec3
         ensures { λ r. ⌜ r ≡ rotate self v ⌝ }
     {
         let u = self.vector();
@@ -151,19 +151,19 @@ impl Quaternion {
     }
 
     // (first + third) + (second + fourth): the order of nalgebra's dot product of four.
-    pub(crate) fn dot(self, b: Quaternion) -> f64
+    pub fn dot(self, b: Quaternion) -> f64
         ensures { λ r. ⌜ r ≡ dot self b ⌝ }
     {
         (self.i * b.i + self.k * b.k) + (self.j * b.j + self.w * b.w)
     }
 
-    pub(crate) fn norm_squared(self) -> f64
+    pub fn norm_squared(self) -> f64
         ensures { λ r. ⌜ r ≡ normSquared self ⌝ }
     {
         self.dot(self)
     }
 
-    pub(crate) fn is_finite(self) -> bool
+    pub fn is_finite(self) -> bool
         ensures { λ r. ⌜ r ≡ finiteQuat self ⌝ }
     {
         is_finite(self.i) & is_finite(self.j) & is_finite(self.k) & is_finite(self.w)

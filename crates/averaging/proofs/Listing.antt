@@ -8,14 +8,14 @@ use mathlib.Core.Bool.{not}
 use lib.ListN.{length, take, set, getD, replicate, List·getD-append}
 use lib.Seq.{take-suc, take-all, set-at, length-take-le}
 use Rattle.arithmetic.specs.Pose.{identityPose, finitePose}
-use Rattle.arithmetic.specs.Average.{taken, plusPose}
+use Rattle.average.specs.Average.{taken, plusPose}
 use Rattle.arithmetic.specs.declared.pose.Pose.{Pose}
-use Rattle.arithmetic.proofs.Averaging.{taken-append}
-use Rattle.extrinsics.specs.Outcome.{lowest}
-use Rattle.extrinsics.specs.Layers.{tabulate}
+use Rattle.average.proofs.Averaging.{taken-append}
+use Rattle.inputs.specs.Finding.{lowest}
+use Rattle.chains.specs.Layers.{tabulate}
 use Rattle.extrinsics.specs.Placed.{nowhere}
-use Rattle.extrinsics.proofs.Lowest.{lowest-agree}
-use Rattle.extrinsics.proofs.Tabulated.{length-tabulate, getD-tabulate, tabulate-getD}
+use Rattle.inputs.proofs.Lowest.{lowest-agree}
+use Rattle.chains.proofs.Tabulated.{length-tabulate, getD-tabulate, tabulate-getD}
 use Rattle.averaging.specs.Listed.{maxPoses, poseList, readTo, listed, posesOf}
 use Rattle.averaging.specs.Entry.{isNotFinite, lowestNotFinite}
 use Rattle.averaging.specs.declared.list.PoseList.{PoseList}

@@ -1,5 +1,5 @@
 -- The public averaging entry, by document 01, "Averaging": "It refuses an empty list with 1, more than 64 with 2, and a non-finite
--- number with 7, detail being the lowest pose." Rests on the average of `arithmetic` and the table of `refusal`.
+-- number with 7, detail being the lowest pose." Rests on the average of `average` and the table of `refusal`.
 use Prim.Native.Nat.{ℕ, _+_, _*_, _^_}
 use mathlib.Core.Bool.{Bool, not}
 use mathlib.Core.Option.{Option, none, some}
@@ -8,12 +8,12 @@ use lib.ListN.{length, getD, drop}
 use lib.Dec.{eqb, ltb}
 use lib.Ieee.{Float}
 use Rattle.arithmetic.specs.Pose.{finitePose, flat}
-use Rattle.arithmetic.specs.Average.{averageIsometries}
+use Rattle.average.specs.Average.{averageIsometries}
 use Rattle.arithmetic.specs.declared.pose.Pose.{Pose}
 use Rattle.refusal.specs.Table.{numberOf, detailOf, refuseIf, refuseAt, firstOf}
 use Rattle.refusal.specs.declared.Refusal.{Refusal}
 use Rattle.refusal.specs.declared.Refusal.the-variants.{InsufficientData, TooMany, NotFinite}
-use Rattle.extrinsics.specs.Outcome.{lowest}
+use Rattle.inputs.specs.Finding.{lowest}
 use Rattle.extrinsics.specs.Placed.{nowhere}
 use Rattle.averaging.specs.Listed.{maxPoses}
 use Rattle.averaging.specs.declared.Averaged.{Averaged}

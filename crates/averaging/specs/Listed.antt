@@ -4,7 +4,7 @@ use mathlib.Core.List.{List, _++_}
 use lib.ListN.{length, take, getD, replicate}
 use Rattle.arithmetic.specs.Pose.{identityPose}
 use Rattle.arithmetic.specs.declared.pose.Pose.{Pose}
-use Rattle.extrinsics.specs.Layers.{tabulate}
+use Rattle.chains.specs.Layers.{tabulate}
 use Rattle.extrinsics.specs.Placed.{nowhere}
 use Rattle.averaging.specs.declared.list.PoseList.{PoseList}
 

@@ -1,8 +1,8 @@
 // The public averaging entry: the average of a lent list of pose records, or why there is none.
 ghost use Prim.Native.Nat.{_≤_};
 ghost use mathlib.Core.Path.{_≡_};
-ghost use Rattle.arithmetic.specs.Average.{averageIsometries};
-ghost use Rattle.extrinsics.specs.Outcome.{foundOf};
+ghost use Rattle.average.specs.Average.{averageIsometries};
+ghost use Rattle.inputs.specs.Finding.{foundOf};
 ghost use Rattle.averaging.specs.Listed.{maxPoses, posesOf};
 ghost use Rattle.averaging.specs.Entry.{lowestNotFinite, averagedOf};
 
@@ -11,10 +11,10 @@ pub mod list;
 
 use crate::list::PoseList;
 use crate::list::read_poses;
-use arithmetic::average::Average;
-use arithmetic::average::MOST_POSES;
 use arithmetic::pose::Pose;
-use extrinsics::checks::Found;
+use average::Average;
+use average::MOST_POSES;
+use inputs::Found;
 use refusal::Refusal;
 
 // What averaging answers.

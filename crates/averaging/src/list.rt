@@ -5,8 +5,8 @@ ghost use mathlib.Core.Path.{_≡_};
 ghost use lib.ListN.{set, replicate};
 ghost use Rattle.arithmetic.specs.Pose.{identityPose};
 ghost use Rattle.averaging.specs.Listed.{maxPoses, poseList, listed};
-use arithmetic::average::MOST_POSES;
 use arithmetic::pose::Pose;
+use average::MOST_POSES;
 
 pub struct PoseList {
     pub poses: [Pose; MOST_POSES],

@@ -16,11 +16,12 @@ use Rattle.arithmetic.specs.declared.pose.Pose.{Pose}
 use Rattle.refusal.specs.Table.{refuseAt, orElse}
 use Rattle.refusal.specs.declared.Refusal.{Refusal}
 use Rattle.refusal.specs.declared.Refusal.the-variants.{InsufficientData, InvalidReference, CountDiffers}
-use Rattle.extrinsics.specs.Layers.{tabulate}
+use Rattle.chains.specs.Layers.{tabulate}
 use Rattle.extrinsics.specs.Grid.{Grid}
 use Rattle.extrinsics.specs.Estimate.{rigSe3Target, transforms}
 use Rattle.extrinsics.specs.Outcome.{notFinite, lowestEmptyView, gridRefusal}
-use Rattle.extrinsics.specs.Direct.{sizeRefusal, countRefusal, lengthRefusal, markRefusal, cellCount, directGrid, directRefusal}
+use Rattle.inputs.specs.Inputs.{sizeRefusal, countRefusal, lengthRefusal, markRefusal, cellCount}
+use Rattle.extrinsics.specs.Direct.{directGrid, directRefusal}
 use Rattle.demands.specs.Rust.{noValidCameraPoses, numViews, numCameras, estimateExtrinsicsFromCamTargetPoses}
 use Rattle.demands.specs.Encoding.{EqualCounts, Encodes, WithinLimits, RoomEnough, refusalOf, Agrees}
 use Rattle.demands.proofs.SameGrid.{SameGrid}
@@ -29,7 +30,8 @@ use Rattle.demands.proofs.RustLayers.{whileLayer-final}
 use Rattle.demands.proofs.RustTargets.{rigPoses, unreached-same, flatten-rigFinal, targets-same}
 use Rattle.demands.proofs.RustSteps.{afterLoop, rust-unreached, rust-empty-view, rust-solved, rust-no-views, rust-no-cameras, rust-reference, rust-counts, rust-loop}
 use Rattle.demands.proofs.GridRefusals.{orElse-none, left, left-none, gridRefusal-unreached, gridRefusal-emptyView, transforms-flatAll}
-use Rattle.demands.proofs.DirectChecks.{size-no-views, size-no-cameras, size-reference, size-passes, otherCount, equal-counts, checkCounts-otherCount, length-counts, first-count, countRefusal-otherCount, lengths-pass, marks-pass, same-grid, notFinite-passes}
+use Rattle.inputs.proofs.Answering.{sizeRefusal-sizes}
+use Rattle.demands.proofs.DirectChecks.{size-no-views, size-no-cameras, size-reference, otherCount, equal-counts, checkCounts-otherCount, length-counts, first-count, countRefusal-otherCount, lengths-pass, marks-pass, same-grid, notFinite-passes}
 
 -- ---- 8, 9 and the transforms
 
@@ -145,8 +147,14 @@ module _ (camSe3Target : List (List (Option Pose))) (refCamIdx : ℕ) (counts ma
       module _ (inside : refCamIdx < numCameras camSe3Target) where
         sizes-pass : sizes ≡ none
         sizes-pass =
-            size-passes (length counts) (getD counts 0 0) refCamIdx (omega (arith, views-same)) (omega (arith, views-same, limits .views-fit))
-            (omega (arith, cameras-same)) (omega (arith, cameras-same, limits .cameras-fit)) (omega (arith, cameras-same))
+            sizeRefusal-sizes (length counts) (getD counts 0 0) refCamIdx
+            (record {
+              some-views = omega (arith, views-same);
+              views-fit = omega (arith, views-same, limits .views-fit);
+              some-cameras = omega (arith, cameras-same);
+              cameras-fit = omega (arith, cameras-same, limits .cameras-fit);
+              reference-inside = omega (arith, cameras-same);
+            })
 
         agrees-other-count : (v : ℕ) → otherCount camSe3Target ≡ some v → Agreed
         unfolding refusalOf refuseAt

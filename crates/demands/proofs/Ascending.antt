@@ -11,13 +11,13 @@ use mathlib.Core.List.{List, [], _∷_, _++_, append-nil, map, map-append, foldl
 use lib.Dec.{eqb, ltb}
 use lib.Pow.{pow-pos}
 use borrow.Author.Tests.{eq-eqb, ne-eqb, le-ltb}
-use Rattle.extrinsics.specs.Layers.{takeIfMore, mostViews}
-use Rattle.extrinsics.specs.Outcome.{powerSum}
+use Rattle.chains.specs.Layers.{takeIfMore, mostViews}
+use Rattle.inputs.specs.Finding.{powerSum}
 use Rattle.demands.specs.RustStd.{isEmpty, range, filter, lesser, minBy}
 use Rattle.demands.specs.Rust.{keyBelow}
 use Rattle.demands.specs.Encoding.{powersOf}
 use Rattle.demands.proofs.Iterators.{filter-append}
-use Rattle.extrinsics.proofs.MostViews.{Found, mostViews-found}
+use Rattle.chains.proofs.MostViews.{Found, mostViews-found}
 
 -- ---- one number more
 

@@ -13,11 +13,11 @@ use lib.ListN.{length, getD, drop}
 use lib.Dec.{T, T-not, not-T}
 use lib.Ieee.{Float}
 use Rattle.arithmetic.specs.Pose.{identityPose, mulPose}
-use Rattle.arithmetic.specs.Average.{averageIsometries}
+use Rattle.average.specs.Average.{averageIsometries}
 use Rattle.refusal.specs.declared.Refusal.{Refusal}
 use Rattle.refusal.specs.declared.Refusal.the-variants.{Unreached, EmptyView}
-use Rattle.extrinsics.specs.Layers.{spotAt, layers}
-use Rattle.extrinsics.specs.Layered.{Layered, LayeredSpots}
+use Rattle.chains.specs.Layers.{spotAt, layers}
+use Rattle.chains.specs.Layered.{Layered, LayeredSpots}
 use Rattle.extrinsics.specs.Grid.{Grid, sharedViews, spots, hasPlace, parent, linkCount}
 use Rattle.extrinsics.specs.Estimate.{rigSe3Cam, rigSe3Target, transforms, chains}
 use Rattle.extrinsics.specs.Outcome.{lowestNotFinite, notFinite, unreachedSet, isEmptyView, lowestEmptyView, gridRefusal, outcomeOf, answered}
@@ -25,12 +25,12 @@ use Rattle.extrinsics.specs.Direct.{directGrid, directRefusal, Direct}
 use Rattle.demands.specs.Demand3.{PassesBefore8, markedShared, EveryViewHolds, Chained, EveryCameraChained, NamesUnchained, LowestEmptyView, reportedParent, reportedLinks, reportedCamera, reportedView, averagedLinkOver, targetsOver, SolvedRig, RefusedUnchained, RefusedEmpty, Demand3}
 use Rattle.extrinsics.specs.declared.Outcome.{Outcome}
 use Rattle.extrinsics.specs.declared.Outcome.the-variants.{Refused, Solved}
-use Rattle.extrinsics.proofs.Answering.{Sizes, refuseAt-nothing}
-use Rattle.extrinsics.proofs.Placing.{isPlaced-parts, placed-isPlaced}
-use Rattle.extrinsics.proofs.Theorem.{layered, layers-agree}
-use Rattle.extrinsics.proofs.Reports.{layered-report}
+use Rattle.inputs.proofs.Answering.{Sizes, refuseAt-nothing}
+use Rattle.chains.proofs.Placing.{isPlaced-parts, placed-isPlaced}
+use Rattle.chains.proofs.Theorem.{layered, layers-agree}
+use Rattle.chains.proofs.Reports.{layered-report}
 use Rattle.extrinsics.proofs.RigPoses.{rigSe3Cam-reference, rigSe3Cam-parent}
-use Rattle.extrinsics.proofs.Lowest.{lowest-passes, lowest-before, lowest-none-fails}
+use Rattle.inputs.proofs.Lowest.{lowest-passes, lowest-before, lowest-none-fails}
 use Rattle.demands.proofs.Naming.{inMask-powerSum-iff, powerSum-inMask, powerSum-some}
 use Rattle.extrinsics.proofs.Solving.{refused-unreached, all-placed, refused-empty-view, not-refused}
 use Rattle.demands.proofs.ReadBack.{reportedParent-chains, reportedLinks-chains, reportedCamera-transforms, reportedView-transforms}
@@ -216,7 +216,7 @@ module _ (counts marks : List ℕ) (floats : List Float) (reference : ℕ) (firs
             (record {
               some-unchained = some-unchained other;
               detail = unreachedSet grid;
-              is-8 = refused-by (some (Unreached (unreachedSet grid))) (refused-unreached grid finite other);
+              is-8 = (Unreached (unreachedSet grid), refused-by (some (Unreached (unreachedSet grid))) (refused-unreached grid finite other), refl, refl);
               precisely = names-unchained;
             }))
         go (yes reached) = then (lowestEmptyView grid) refl
@@ -230,7 +230,7 @@ module _ (counts marks : List ℕ) (floats : List Float) (reference : ℕ) (firs
                 (record {
                   every-chained = every-chained reached;
                   detail = v;
-                  is-9 = refused-by (some (EmptyView v)) (refused-empty-view grid finite reached v e);
+                  is-9 = (EmptyView v, refused-by (some (EmptyView v)) (refused-empty-view grid finite reached v e), refl, refl);
                   is-lowest = lowest-empty v e;
                 }))
 
@@ -241,7 +241,7 @@ module _ (counts marks : List ℕ) (floats : List Float) (reference : ℕ) (firs
     demanded =
         record {
           solved-exactly = (
-            λ e. ⊎-elim (λ s. (s .1, s .2)) (⊎-elim (λ o. absurd (not-solved _ (o .is-8) e)) (λ o. absurd (not-solved _ (o .is-9) e))) case,
+            λ e. ⊎-elim (λ s. (s .1, s .2)) (⊎-elim (λ o. absurd (not-solved _ (o .is-8 .1) e)) (λ o. absurd (not-solved _ (o .is-9 .1) e))) case,
             λ every.
                 ⊎-elim (λ s. s .0)
                 (⊎-elim (λ o. absurd (o .some-unchained .2 (every .0 (o .some-unchained .0) (o .some-unchained .1))))
@@ -255,7 +255,7 @@ module _ (counts marks : List ℕ) (floats : List Float) (reference : ℕ) (firs
               (⊎-elim (λ o. absurd (o .some-unchained .2 (every (o .some-unchained .0) (o .some-unchained .1)))) (λ o. o))
               case;
           solved-rig = λ e.
-              ⊎-elim (λ s. s .3) (⊎-elim (λ o. absurd (not-solved _ (o .is-8) e)) (λ o. absurd (not-solved _ (o .is-9) e))) case;
+              ⊎-elim (λ s. s .3) (⊎-elim (λ o. absurd (not-solved _ (o .is-8 .1) e)) (λ o. absurd (not-solved _ (o .is-9 .1) e))) case;
         }
 
 -- Whatever the inputs, and whatever stood in the lent answers: where the checks before 8 pass, what the direct call ensures is demand 3.

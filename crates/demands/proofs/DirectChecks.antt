@@ -16,33 +16,22 @@ use Rattle.arithmetic.specs.Pose.{finitePose}
 use Rattle.arithmetic.specs.declared.pose.Pose.{Pose}
 use Rattle.refusal.specs.Table.{refuseAt}
 use Rattle.refusal.specs.declared.Refusal.the-variants.{InsufficientData, InvalidReference, CountDiffers, BadMark, NotFinite}
-use Rattle.extrinsics.specs.Limits.{maxViews, maxCameras}
+use Rattle.chains.specs.Limits.{maxViews, maxCameras}
 use Rattle.extrinsics.specs.Grid.{Grid}
-use Rattle.extrinsics.specs.Outcome.{lowest, isNotFinite, notFinite}
-use Rattle.extrinsics.specs.Direct.{sizeRefusal, markedCell, cellCount, lowestOtherCount, countRefusal, lengthRefusal, markRefusal, directGrid}
+use Rattle.inputs.specs.Finding.{lowest}
+use Rattle.extrinsics.specs.Outcome.{isNotFinite, notFinite}
+use Rattle.inputs.specs.Inputs.{sizeRefusal, cellCount, lowestOtherCount, countRefusal, lengthRefusal, markRefusal}
+use Rattle.extrinsics.specs.Direct.{markedCell, directGrid}
 use Rattle.extrinsics.specs.declared.grid.Cell.the-variants.{Empty}
 use Rattle.demands.specs.RustStd.{forEach}
 use Rattle.demands.specs.Rust.{cameraCount, numViews, numCameras, checkCount, checkCounts}
-use Rattle.demands.specs.Encoding.{cellFor, poseOf, EqualCounts, EncodesCells, Encodes, WithinLimits, RoomEnough}
-use Rattle.extrinsics.proofs.Tabulated.{getD-tabulate}
-use Rattle.extrinsics.proofs.Lowest.{lowest-passes, lowest-none-fails, lowest-agree}
+use Rattle.demands.specs.Encoding.{poseOf, EqualCounts, EncodesCells, Encodes, WithinLimits, RoomEnough}
+use Rattle.chains.proofs.Tabulated.{getD-tabulate}
+use Rattle.inputs.proofs.Lowest.{lowest-none-fails, lowest-nothing, lowest-agree}
 use Rattle.extrinsics.proofs.ViewCells.{row-inside}
 use Rattle.demands.proofs.Iterators.{enumerate-tabulate, stopped, forEach-lowest}
-use Rattle.demands.proofs.SameGrid.{SameGrid}
-
--- ---- searches and cells
-
-pub lowest-nothing : (test : ℕ → Bool) (n : ℕ) → ((i : ℕ) → i < n → test i ≡ false) → lowest test n ≡ none
-lowest-nothing test n h = go (lowest test n) refl
-  where
-    go : (o : Option ℕ) → lowest test n ≡ o → o ≡ none
-    go none e = refl
-    go (some i) e = let (l, t) = lowest-passes test n i e in absurd (false≢true (sym (h i l) ∙ t))
-
--- Every cell is in the row and the column of its quotient and its remainder.
-some-column : (i m n : ℕ) → i < m * n → 0 < n
-some-column i m zero h = absurd (omega arith)
-some-column i m (suc n) h = omega arith
+use Rattle.demands.proofs.SameGrid.{cellFor, SameGrid}
+use Rattle.demands.proofs.HeldCells.{some-column, mark-small, same-cell}
 
 -- ---- 1, 2 and 3
 
@@ -66,17 +55,6 @@ module _ (views cameras reference : ℕ) where
             ne-eqb cameras 0 some-camera,
             le-ltb maxCameras cameras cameras-fit,
             le-leb cameras reference l,
-          )
-
-      pub size-passes : reference < cameras → sizeRefusal views cameras reference ≡ none
-      unfolding sizeRefusal
-      size-passes l =
-          rw (
-            ne-eqb views 0 some-view,
-            le-ltb maxViews views views-fit,
-            ne-eqb cameras 0 some-camera,
-            le-ltb maxCameras cameras cameras-fit,
-            lt-leb cameras reference l,
           )
 
 -- ---- 4
@@ -155,7 +133,7 @@ module _ (camSe3Target : List (List (Option Pose))) (counts marks : List ℕ) (f
     marks-pass =
         ap (λ (o : Option ℕ). refuseAt o BadMark)
         (lowest-nothing (λ i. ltb 1 (getD marks i 0)) (cellCount counts)
-        (λ i l. le-ltb 1 (getD marks i 0) (holding .mark-small i (omega (arith, holding .mark-each, cellCount-same)))))
+        (λ i l. le-ltb 1 (getD marks i 0) (mark-small camSe3Target marks floats holding i (omega (arith, cellCount-same)))))
 
     module _ (reference : ℕ) where
       abbrev g : Grid
@@ -170,7 +148,7 @@ module _ (camSe3Target : List (List (Option Pose))) (counts marks : List ℕ) (f
         same-cell = λ v c h k.
             getD-tabulate (cellCount counts) (markedCell marks floats) Empty (v * getD counts 0 0 + c) (row-inside v (length counts) (getD counts 0 0) c h k)
             ∙ ap (λ (n : ℕ). markedCell marks floats (v * n + c)) first-count
-            ∙ holding .same-cell v c (omega (arith, length-counts)) (omega (arith, first-count));
+            ∙ same-cell camSe3Target marks floats holding v c (omega (arith, length-counts)) (omega (arith, first-count));
       }
 
       pub notFinite-passes : WithinLimits camSe3Target → notFinite g ≡ none

@@ -9,36 +9,24 @@ use lib.ListN.{length, getD}
 use lib.Ieee.{Float, nan}
 use Rattle.arithmetic.specs.Pose.{flat, poseAt}
 use Rattle.arithmetic.specs.declared.pose.Pose.{Pose}
-use Rattle.extrinsics.specs.Layers.{tabulate}
-use Rattle.extrinsics.specs.Direct.{markedCell}
+use Rattle.chains.specs.Layers.{tabulate}
 use Rattle.demands.specs.Rust.{numViews, numCameras}
-use Rattle.demands.specs.Encoding.{cellFor, poseOf, EncodesCells, Encodes}
-use Rattle.extrinsics.proofs.Tabulated.{length-tabulate, getD-tabulate}
+use Rattle.demands.specs.Encoding.{markFor, poseOf, EncodesCells, Encodes}
+use Rattle.chains.proofs.Tabulated.{length-tabulate, getD-tabulate}
 use Rattle.extrinsics.proofs.ViewCells.{row-inside, row-quotient, row-remainder}
 
 -- ---- one cell
-
-markFor : Option Pose → ℕ
-markFor none = 0
-markFor (some p) = 1
 
 floatFor : Option Pose → ℕ → Float
 floatFor none k = nan
 floatFor (some p) k = getD (flat p) k nan
 
-markFor-le : (o : Option Pose) → markFor o ≤ 1
-unfolding markFor
-markFor-le none = omega arith
-markFor-le (some p) = omega arith
-
--- A cell that reads so is the cell of the option.
-markedCell-cellFor : (marks : List ℕ) (floats : List Float) (i : ℕ) (o : Option Pose) → getD marks i 0 ≡ markFor o
-    → ((k : ℕ) → k < 7 → getD floats (7 * i + k) nan ≡ floatFor o k) → markedCell marks floats i ≡ cellFor o
-unfolding markedCell poseAt markFor floatFor
-markedCell-cellFor marks floats i none e h = rw e
-markedCell-cellFor marks floats i (some p) e h =
+-- Floats that read so are the pose's.
+poseAt-floatFor : (floats : List Float) (i : ℕ) (p : Pose) → ((k : ℕ) → k < 7 → getD floats (7 * i + k) nan ≡ floatFor (some p) k) → poseAt floats (7 * i) ≡ p
+unfolding poseAt floatFor
+poseAt-floatFor floats i p h =
     let first : getD floats (7 * i) nan ≡ floatFor (some p) 0 = ap (λ (j : ℕ). getD floats j nan) (omega arith) ∙ h 0 (omega arith) in
-    rw (e, first, h 1 (omega arith), h 2 (omega arith), h 3 (omega arith), h 4 (omega arith), h 5 (omega arith), h 6 (omega arith))
+    rw (first, h 1 (omega arith), h 2 (omega arith), h 3 (omega arith), h 4 (omega arith), h 5 (omega arith), h 6 (omega arith))
 
 -- ---- all cells
 
@@ -72,13 +60,14 @@ module _ (camSe3Target : List (List (Option Pose))) where
   encodesCells = record {
     mark-each = length-tabulate cells (λ i. markFor (poseIn i));
     seven-each = length-tabulate (7 * cells) (λ j. floatFor (poseIn (j / 7)) (j % 7));
-    mark-small = λ i h.
-        omega (arith, getD-marks i (omega (arith, length-tabulate cells (λ i. markFor (poseIn i)))), markFor-le (poseIn i));
-    same-cell = λ v c h k.
+    cell-mark = λ v c h k.
+        getD-marks (v * numCameras camSe3Target + c) (row-inside v (numViews camSe3Target) (numCameras camSe3Target) c h k) ∙ ap markFor (poseIn-row v c k);
+    cell-pose = λ v c h k p e.
         let i = v * numCameras camSe3Target + c in
-        let l : i < cells = row-inside v (numViews camSe3Target) (numCameras camSe3Target) c h k in
-        markedCell-cellFor marks floats i (poseOf camSe3Target v c) (getD-marks i l ∙ ap markFor (poseIn-row v c k))
-        (λ n m. getD-floats i n l m ∙ ap (λ (o : Option Pose). floatFor o n) (poseIn-row v c k));
+        poseAt-floatFor floats i p
+        (λ n m.
+        getD-floats i n (row-inside v (numViews camSe3Target) (numCameras camSe3Target) c h k) m
+        ∙ ap (λ (o : Option Pose). floatFor o n) (poseIn-row v c k ∙ e));
   }
 
   pub encoded : (counts marks : List ℕ) × (floats : List Float) × Encodes camSe3Target counts marks floats

@@ -10,8 +10,8 @@ use lib.ListN.{length, length-append}
 use lib.Ieee.{Float}
 use Rattle.arithmetic.specs.Pose.{flat}
 use Rattle.arithmetic.specs.declared.pose.Pose.{Pose}
-use Rattle.extrinsics.specs.Shared.{count}
-use Rattle.extrinsics.specs.Layers.{tabulate}
+use Rattle.chains.specs.Shared.{count}
+use Rattle.chains.specs.Layers.{tabulate}
 use Rattle.extrinsics.specs.Estimate.{gather}
 use Rattle.demands.specs.Encoding.{flatAll}
 

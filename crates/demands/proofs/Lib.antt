@@ -3,6 +3,7 @@ pub mod Iterators
 pub mod Ascending
 pub mod Gathered
 pub mod SameGrid
+pub mod HeldCells
 pub mod PartialRigs
 pub mod RustLayers
 pub mod RustTargets
@@ -12,11 +13,9 @@ pub mod GridRefusals
 pub mod Agreement
 pub mod CallAgrees
 pub mod Encoded
-pub mod ArithmeticCases
 pub mod Blocks
 pub mod MarkedViews
 pub mod Naming
 pub mod ReadBack
 pub mod Demand3
 pub mod WellFormed
-pub mod Cases

@@ -11,19 +11,21 @@ use lib.Dec.{T, eqb}
 use lib.Ieee.{Float}
 use borrow.Author.Tests.{eqb-true, eqb-false, eq-eqb, ne-eqb}
 use Rattle.arithmetic.specs.Pose.{poseAt, mulPose, inversePose}
-use Rattle.arithmetic.specs.Average.{averageIsometries}
+use Rattle.average.specs.Average.{averageIsometries}
 use Rattle.arithmetic.specs.declared.pose.Pose.{Pose}
-use Rattle.extrinsics.specs.Shared.{shared}
+use Rattle.chains.specs.Shared.{shared}
 use Rattle.extrinsics.specs.Grid.{Grid, isHeld, cellOf, holds, sharedViews}
 use Rattle.extrinsics.specs.Estimate.{linkCandidate, targetCandidate, linkCandidates, averagedLink, rigSe3Cam, targetCandidates}
-use Rattle.extrinsics.specs.Outcome.{lowest, isEmptyView}
-use Rattle.extrinsics.specs.Direct.{cellCount, markedCell, directGrid}
+use Rattle.inputs.specs.Finding.{lowest}
+use Rattle.extrinsics.specs.Outcome.{isEmptyView}
+use Rattle.inputs.specs.Inputs.{cellCount}
+use Rattle.extrinsics.specs.Direct.{markedCell, directGrid}
 use Rattle.demands.specs.Demand3.{marked, HoldsAPose, markedShared, targetPose, linksOver, averagedLinkOver, targetsOver}
 use Rattle.extrinsics.specs.declared.grid.Cell.{Cell}
 use Rattle.extrinsics.specs.declared.grid.Cell.the-variants.{Empty, Held}
-use Rattle.extrinsics.proofs.Counting.{count-agree}
-use Rattle.extrinsics.proofs.Tabulated.{getD-tabulate}
-use Rattle.extrinsics.proofs.Lowest.{lowest-passes, lowest-none-fails}
+use Rattle.chains.proofs.Counting.{count-agree}
+use Rattle.chains.proofs.Tabulated.{getD-tabulate}
+use Rattle.inputs.proofs.Lowest.{lowest-passes, lowest-none-fails}
 use Rattle.extrinsics.proofs.Gathering.{gather-agree}
 use Rattle.extrinsics.proofs.ViewCells.{row-inside, isHeld-cond}
 

@@ -7,11 +7,11 @@ use mathlib.Core.Logic.{_↔_}
 use mathlib.Core.Bool.{Bool, true, false}
 use mathlib.Core.Option.{Option, none, some}
 use lib.Dec.{T}
-use Rattle.extrinsics.specs.Masks.{inMask}
-use Rattle.extrinsics.specs.Outcome.{lowest, powerSum}
-use Rattle.extrinsics.proofs.Lowest.{lowest-passes, lowest-none-fails}
-use Rattle.extrinsics.proofs.PowerSums.{powerSum-lt, powerSum-agree}
-use Rattle.extrinsics.proofs.MarkedGrid.{inMask-powerSum}
+use Rattle.chains.specs.Masks.{inMask}
+use Rattle.inputs.specs.Finding.{lowest, powerSum}
+use Rattle.inputs.proofs.Lowest.{lowest-passes, lowest-none-fails}
+use Rattle.inputs.proofs.PowerSums.{powerSum-lt, powerSum-agree}
+use Rattle.inputs.proofs.MarkedMasks.{inMask-powerSum}
 use Rattle.extrinsics.proofs.Solving.{inMask-past}
 
 powerSum-none : (n : ℕ) → powerSum (λ i. false) n ≡ 0

@@ -14,13 +14,13 @@ use lib.Dec.{T, eqb, ltb}
 use borrow.Author.Tests.{eq-eqb, ne-eqb, lt-ltb, le-ltb}
 use Rattle.arithmetic.specs.Pose.{mulPose, identityPose}
 use Rattle.arithmetic.specs.declared.pose.Pose.{Pose}
-use Rattle.extrinsics.specs.Layers.{Spot, notPlaced, placed, isPlaced, parentOf, inLayer, spotAt, startSpot, layers, tabulate}
+use Rattle.chains.specs.Layers.{Spot, notPlaced, placed, isPlaced, parentOf, inLayer, spotAt, startSpot, layers, tabulate}
 use Rattle.extrinsics.specs.Grid.{Grid, sharedViews, spots}
 use Rattle.extrinsics.specs.Estimate.{averagedLink, rigSe3Cam}
 use Rattle.demands.specs.RustStd.{isSome, range, filter}
-use Rattle.extrinsics.proofs.Tabulated.{length-tabulate, getD-tabulate, tabulate-agree, tabulate-getD}
-use Rattle.extrinsics.proofs.Placing.{spot, offer, ofLayer, spot-zero, spot-next, spot-reference, spot-stays, layersTo-stays, kept-not-ofLayer, links-below-cameras, inLayer-placed, placed-inLayer, placed-isPlaced, placed-not-notPlaced}
-use Rattle.extrinsics.proofs.Theorem.{final-placed}
+use Rattle.chains.proofs.Tabulated.{length-tabulate, getD-tabulate, tabulate-agree, tabulate-getD}
+use Rattle.chains.proofs.Placing.{spot, offer, ofLayer, spot-zero, spot-next, spot-reference, spot-stays, layersTo-stays, kept-not-ofLayer, links-below-cameras, inLayer-placed, placed-inLayer, placed-isPlaced, placed-not-notPlaced}
+use Rattle.chains.proofs.Theorem.{final-placed}
 use Rattle.demands.proofs.Ascending.{filter-range-in, filter-range-out, filter-range-empty, filter-range-member, filter-range-one}
 use Rattle.extrinsics.proofs.RigPoses.{rigSe3Cam-reference, rigSe3Cam-parent}
 

@@ -12,13 +12,13 @@ use lib.Dec.{T, eqb, ltb}
 use borrow.Author.Tests.{ne-eqb}
 use Rattle.arithmetic.specs.Pose.{mulPose, identityPose}
 use Rattle.arithmetic.specs.declared.pose.Pose.{Pose}
-use Rattle.extrinsics.specs.Layers.{Spot, notPlaced, placed, inLayer, nextSpot, linkedInLayer, parentInLayer, tabulate}
+use Rattle.chains.specs.Layers.{Spot, notPlaced, placed, inLayer, nextSpot, linkedInLayer, parentInLayer, tabulate}
 use Rattle.extrinsics.specs.Grid.{Grid, sharedViews}
 use Rattle.extrinsics.specs.Estimate.{averagedLink, rigSe3Cam}
 use Rattle.demands.specs.RustStd.{ok, isSome, range, forEach, filter}
 use Rattle.demands.specs.Rust.{averageIsometries?, numCameras, shared, parentIn, candidates, place, visit, whileLayer}
-use Rattle.extrinsics.proofs.MostViews.{mostViews-agree}
-use Rattle.extrinsics.proofs.Placing.{Offered, spot-suc, spot-next, offer-some, inLayer-placed, placed-not-notPlaced}
+use Rattle.chains.proofs.MostViews.{mostViews-agree}
+use Rattle.chains.proofs.Placing.{Offered, spot-suc, spot-next, offer-some, inLayer-placed, placed-not-notPlaced}
 use Rattle.demands.proofs.Iterators.{range-tabulate, forEach-ok}
 use Rattle.demands.proofs.Ascending.{withViews, minBy-mostViews}
 use Rattle.demands.proofs.SameGrid.{SameGrid, sharedViews-comm, shared-same, averageIsometries?-candidates}

@@ -7,24 +7,25 @@ use mathlib.Core.Option.{Option, none, some}
 use mathlib.Core.List.{List, [], _∷_, _++_}
 use lib.ListN.{getD}
 use Rattle.arithmetic.specs.Pose.{identityPose}
-use Rattle.arithmetic.specs.Average.{averageIsometries}
+use Rattle.average.specs.Average.{averageIsometries}
 use Rattle.arithmetic.specs.declared.pose.Pose.{Pose}
-use Rattle.extrinsics.specs.Layers.{Spot, notPlaced, placed, isPlaced, spotAt, tabulate}
+use Rattle.chains.specs.Layers.{Spot, notPlaced, placed, isPlaced, spotAt, tabulate}
 use Rattle.extrinsics.specs.Grid.{Grid, isHeld, cellOf, holds, spots, hasPlace}
 use Rattle.extrinsics.specs.Estimate.{gather, rigSe3Cam, rigSe3Target}
 use Rattle.extrinsics.specs.Estimate as ours
-use Rattle.extrinsics.specs.Outcome.{lowest, isEmptyView, lowestEmptyView}
+use Rattle.inputs.specs.Finding.{lowest}
+use Rattle.extrinsics.specs.Outcome.{isEmptyView, lowestEmptyView}
 use Rattle.extrinsics.specs.declared.grid.Cell.{Cell}
 use Rattle.extrinsics.specs.declared.grid.Cell.the-variants.{Empty, Held}
 use Rattle.demands.specs.RustStd.{ok, err, isSome, isEmpty, range, enumerate, forEach, filter, consSome, filterMap, flatten}
 use Rattle.demands.specs.Rust.{noValidCameraPoses, averageIsometries?, numViews, unreached, targetCandidate, targetCandidates, pushTarget}
-use Rattle.demands.specs.Encoding.{cellFor, poseOf}
-use Rattle.extrinsics.proofs.Tabulated.{getD-tabulate}
+use Rattle.demands.specs.Encoding.{poseOf}
+use Rattle.chains.proofs.Tabulated.{getD-tabulate}
 use Rattle.extrinsics.proofs.Gathering.{gather-agree}
 use Rattle.demands.proofs.Gathered.{gather-tabulate}
 use Rattle.demands.proofs.Iterators.{enumerate-tabulate, filterMap-tabulate, stopped, forEach-lowest}
 use Rattle.demands.proofs.Ascending.{filter-range-agree}
-use Rattle.demands.proofs.SameGrid.{SameGrid}
+use Rattle.demands.proofs.SameGrid.{cellFor, SameGrid}
 use Rattle.demands.proofs.PartialRigs.{poseIn, isSome-poseIn, rigFinal}
 
 -- ---- one cell, one view

@@ -7,22 +7,27 @@ use mathlib.Core.Bool.{cond, _&&_, and-comm}
 use mathlib.Core.Option.{Option, none, some}
 use mathlib.Core.List.{List, [], _∷_}
 use lib.ListN.{length, getD}
-use Rattle.arithmetic.specs.Average.{averageIsometries}
+use Rattle.average.specs.Average.{averageIsometries}
 use Rattle.arithmetic.specs.declared.pose.Pose.{Pose}
-use Rattle.extrinsics.specs.Shared as ours
-use Rattle.extrinsics.specs.Layers.{tabulate}
+use Rattle.chains.specs.Shared as ours
+use Rattle.chains.specs.Layers.{tabulate}
 use Rattle.extrinsics.specs.Grid.{Grid, isHeld, cellOf, holds, sharedViews}
 use Rattle.extrinsics.specs.Estimate.{linkCandidate, linkCandidates, averagedLink}
 use Rattle.extrinsics.specs.declared.grid.Cell.{Cell}
 use Rattle.extrinsics.specs.declared.grid.Cell.the-variants.{Empty, Held}
 use Rattle.demands.specs.RustStd.{ok, isSome, filter, consSome, filterMap}
 use Rattle.demands.specs.Rust.{averageIsometries?, relativePose, numViews, numCameras, shared, candidates}
-use Rattle.demands.specs.Encoding.{cellFor, poseOf}
-use Rattle.extrinsics.proofs.Counting.{count-agree}
-use Rattle.extrinsics.proofs.Tabulated.{tabulate-getD}
+use Rattle.demands.specs.Encoding.{poseOf}
+use Rattle.chains.proofs.Counting.{count-agree}
+use Rattle.chains.proofs.Tabulated.{tabulate-getD}
 use Rattle.extrinsics.proofs.Gathering.{gather-agree}
 use Rattle.demands.proofs.Gathered.{length-gather}
 use Rattle.demands.proofs.Iterators.{length-filter-tabulate, filterMap-tabulate}
+
+-- The cell of an option.
+abbrev pub cellFor : Option Pose → Cell
+cellFor none = Empty
+cellFor (some p) = Held p
 
 -- ---- cells
 

@@ -18,14 +18,15 @@ use Rattle.refusal.specs.declared.Refusal.{Refusal}
 use Rattle.refusal.specs.declared.Refusal.the-variants.{CountDiffers, BadMark, NotFinite}
 use Rattle.extrinsics.specs.Grid.{Grid}
 use Rattle.extrinsics.specs.Outcome.{isNotFinite, lowestNotFinite, notFinite}
-use Rattle.extrinsics.specs.Direct.{sizeRefusal, markedCell, cellCount, lowestOtherCount, countRefusal, lengthRefusal, lowestBadMark, markRefusal, inputRefusal, directGrid}
+use Rattle.inputs.specs.Inputs.{sizeRefusal, cellCount, lowestOtherCount, countRefusal, lengthRefusal, lowestBadMark, markRefusal, inputRefusal}
+use Rattle.extrinsics.specs.Direct.{markedCell, directGrid}
 use Rattle.extrinsics.specs.declared.grid.Cell.the-variants.{Empty, Held}
 use Rattle.demands.specs.Demand3.{PassesBefore8, WellFormed}
-use Rattle.extrinsics.proofs.Answering.{refuseAt-none, refuseAt-nothing, firstOf-none, firstOf-none-all, AllNone, Sizes, Lengths}
-use Rattle.extrinsics.proofs.Lowest.{lowest-none-fails}
-use Rattle.extrinsics.proofs.Tabulated.{getD-tabulate}
+use Rattle.inputs.proofs.Answering.{refuseAt-none, refuseAt-nothing, firstOf-none, firstOf-none-all, AllNone, Sizes, sizeRefusal-sizes, Lengths}
+use Rattle.inputs.proofs.Lowest.{lowest-none-fails, lowest-nothing}
+use Rattle.chains.proofs.Tabulated.{getD-tabulate}
 use Rattle.extrinsics.proofs.DirectCall.{input-sizes, input-lengths, input-marks}
-use Rattle.demands.proofs.DirectChecks.{lowest-nothing, size-passes, length-passes, T-not-false}
+use Rattle.demands.proofs.DirectChecks.{length-passes, T-not-false}
 
 -- ---- checks that find nothing
 
@@ -121,8 +122,14 @@ module _ (counts marks : List ℕ) (floats : List Float) (reference firstRoom se
   module _ (formed : WellFormed counts marks floats reference firstRoom secondRoom) where
     sizes-pass : sizeRefusal (length counts) (getD counts 0 0) reference ≡ none
     sizes-pass =
-        size-passes (length counts) (getD counts 0 0) reference (omega (arith, formed .some-views)) (formed .views-fit)
-        (omega (arith, formed .some-cameras)) (formed .cameras-fit) (formed .reference-inside)
+        sizeRefusal-sizes (length counts) (getD counts 0 0) reference
+        (record {
+          some-views = formed .some-views;
+          views-fit = formed .views-fit;
+          some-cameras = formed .some-cameras;
+          cameras-fit = formed .cameras-fit;
+          reference-inside = formed .reference-inside;
+        })
 
     counts-pass : countRefusal counts ≡ none
     unfolding countRefusal lowestOtherCount

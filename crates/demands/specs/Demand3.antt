@@ -11,17 +11,20 @@ use lib.ListN.{length, getD}
 use lib.Dec.{T, eqb}
 use lib.Ieee.{Float}
 use Rattle.arithmetic.specs.Pose.{poseAt, finitePose, identityPose, mulPose, inversePose}
-use Rattle.arithmetic.specs.Average.{averageIsometries}
+use Rattle.average.specs.Average.{averageIsometries}
 use Rattle.arithmetic.specs.declared.pose.Pose.{Pose}
-use Rattle.refusal.specs.declared.Refusal.the-variants.{Unreached, EmptyView}
-use Rattle.extrinsics.specs.Limits.{maxViews, maxCameras}
-use Rattle.extrinsics.specs.Shared.{shared}
-use Rattle.extrinsics.specs.Chains.{HasChain}
-use Rattle.extrinsics.specs.Layered.{Layered}
-use Rattle.extrinsics.specs.Masks.{inMask}
+use Rattle.refusal.specs.Table.{numberOf, detailOf}
+use Rattle.refusal.specs.declared.Refusal.{Refusal}
+use Rattle.chains.specs.Limits.{maxViews, maxCameras}
+use Rattle.chains.specs.Shared.{shared}
+use Rattle.chains.specs.Chains.{HasChain}
+use Rattle.chains.specs.Layered.{Layered}
+use Rattle.chains.specs.Masks.{inMask}
 use Rattle.extrinsics.specs.Estimate.{gather}
-use Rattle.extrinsics.specs.Outcome.{powerSum, notFinite}
-use Rattle.extrinsics.specs.Direct.{inputRefusal, directGrid}
+use Rattle.inputs.specs.Finding.{powerSum}
+use Rattle.extrinsics.specs.Outcome.{notFinite}
+use Rattle.inputs.specs.Inputs.{inputRefusal}
+use Rattle.extrinsics.specs.Direct.{directGrid}
 use Rattle.extrinsics.specs.declared.Outcome.{Outcome}
 use Rattle.extrinsics.specs.declared.Outcome.the-variants.{Refused, Solved}
 
@@ -106,6 +109,10 @@ module _ (marks : List ℕ) (floats : List Float) (cameras : ℕ) where
 
 -- ---- the demand
 
+-- Refused by a number of the table, with a detail.
+abbrev pub RefusedBy : Outcome → ℕ → ℕ → Type 0
+RefusedBy r number detail = (q : Refusal) × (r ≡ Refused q) × (numberOf q ≡ number) × (detailOf q ≡ detail)
+
 module _ (marks : List ℕ) (cameras views : ℕ) where
   -- "Two different cameras share each view that holds poses of both."
   unfoldable pub markedShared : ℕ → ℕ → ℕ
@@ -140,14 +147,14 @@ module _ (marks : List ℕ) (cameras views : ℕ) where
     pub record RefusedUnchained (r : Outcome) : Type 0 where
       pub some-unchained : (c : ℕ) × (c < cameras) × (Chained c → ⊥)
       pub detail : ℕ
-      pub is-8 : r ≡ Refused (Unreached detail)
+      pub is-8 : RefusedBy r 8 detail
       pub precisely : NamesUnchained detail
 
     -- "or, if there are none, 9, naming the lowest empty view"
     pub record RefusedEmpty (r : Outcome) : Type 0 where
       pub every-chained : EveryCameraChained
       pub detail : ℕ
-      pub is-9 : r ≡ Refused (EmptyView detail)
+      pub is-9 : RefusedBy r 9 detail
       pub is-lowest : LowestEmptyView detail
 
     module _ (floats first : List Float) (second : List ℕ) where

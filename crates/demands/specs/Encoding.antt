@@ -7,24 +7,22 @@ use mathlib.Core.List.{List, [], _∷_, _++_, map}
 use lib.ListN.{length, getD, drop}
 use lib.Dec.{T}
 use lib.Ieee.{Float}
-use Rattle.arithmetic.specs.Pose.{finitePose, flat}
+use Rattle.arithmetic.specs.Pose.{finitePose, flat, poseAt}
 use Rattle.arithmetic.specs.declared.pose.Pose.{Pose}
 use Rattle.refusal.specs.declared.Refusal.{Refusal}
 use Rattle.refusal.specs.declared.Refusal.the-variants.{InsufficientData, InvalidReference, CountDiffers, Unreached, EmptyView}
-use Rattle.extrinsics.specs.Limits.{maxViews, maxCameras}
-use Rattle.extrinsics.specs.Direct.{markedCell}
+use Rattle.chains.specs.Limits.{maxViews, maxCameras}
 use Rattle.demands.specs.RustStd.{Result, ok, err, neither}
 use Rattle.demands.specs.Rust.{Error, insufficientData, invalidRefCamIdx, cameraCount, shareNoView, noValidCameraPoses, ExtrinsicPoses, numViews, numCameras}
 use Rattle.extrinsics.specs.declared.Outcome.{Outcome}
 use Rattle.extrinsics.specs.declared.Outcome.the-variants.{Refused, Solved}
-use Rattle.extrinsics.specs.declared.grid.Cell.{Cell}
-use Rattle.extrinsics.specs.declared.grid.Cell.the-variants.{Empty, Held}
 
 -- ---- inputs
 
-abbrev pub cellFor : Option Pose → Cell
-cellFor none = Empty
-cellFor (some p) = Held p
+-- "0 empty, 1 pose"
+abbrev pub markFor : Option Pose → ℕ
+markFor none = 0
+markFor (some p) = 1
 
 -- `cam_se3_target[v][c]`, `None` outside.
 abbrev pub poseOf : List (List (Option Pose)) → ℕ → ℕ → Option Pose
@@ -39,9 +37,10 @@ module _ (camSe3Target : List (List (Option Pose))) where
   pub record EncodesCells (marks : List ℕ) (floats : List Float) : Type 0 where
     pub mark-each : length marks ≡ numViews camSe3Target * numCameras camSe3Target
     pub seven-each : length floats ≡ 7 * (numViews camSe3Target * numCameras camSe3Target)
-    pub mark-small : (i : ℕ) → i < length marks → getD marks i 0 ≤ 1
-    pub same-cell : (v c : ℕ) → v < numViews camSe3Target → c < numCameras camSe3Target
-        → markedCell marks floats (v * numCameras camSe3Target + c) ≡ cellFor (poseOf camSe3Target v c)
+    pub cell-mark : (v c : ℕ) → v < numViews camSe3Target → c < numCameras camSe3Target
+        → getD marks (v * numCameras camSe3Target + c) 0 ≡ markFor (poseOf camSe3Target v c)
+    pub cell-pose : (v c : ℕ) → v < numViews camSe3Target → c < numCameras camSe3Target
+        → (p : Pose) → poseOf camSe3Target v c ≡ some p → poseAt floats (7 * (v * numCameras camSe3Target + c)) ≡ p
 
   -- The direct call's counts, marks and floats hold the grid. Where the counts differ there are no cells to speak of.
   pub record Encodes (counts marks : List ℕ) (floats : List Float) : Type 0 where

@@ -2,6 +2,4 @@
 pub mod RustStd
 pub mod Rust
 pub mod Encoding
-pub mod ArithmeticCases
 pub mod Demand3
-pub mod Cases

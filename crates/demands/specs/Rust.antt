@@ -1,6 +1,6 @@
 -- The Rust function `estimate_extrinsics_from_cam_target_poses` of extrinsics.rs, step by step in its own order and terms, to be read with the
--- Rust in the other hand. It shares the arithmetic of `arithmetic` with the definitions of the direct call, the average of a non-empty list among
--- it, and nothing else.
+-- Rust in the other hand. It shares the arithmetic of `arithmetic` and the average of a non-empty list of `average` with the definitions of the
+-- direct call, and nothing else.
 use Prim.Native.Nat.{ℕ, zero, suc}
 use mathlib.Core.Bool.{Bool, true, false, not, _&&_, _||_}
 use mathlib.Core.Option.{Option, none, some}
@@ -8,7 +8,7 @@ use mathlib.Core.List.{List, [], _∷_, _++_, map}
 use lib.ListN.{length, getD, set, replicate}
 use lib.Dec.{eqb, leb, ltb}
 use Rattle.arithmetic.specs.Pose.{mulPose, inversePose, identityPose}
-use Rattle.arithmetic.specs.Average.{averageIsometries}
+use Rattle.average.specs.Average.{averageIsometries}
 use Rattle.arithmetic.specs.declared.pose.Pose.{Pose}
 use Rattle.demands.specs.RustStd.{Result, ok, err, neither, _>>=_, _>>_, returnErrIf, expect, isSome, _‼_, isEmpty, range, enumerate, forEach, filter, filterMap, flatten, minBy}
 

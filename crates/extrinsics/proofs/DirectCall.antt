@@ -13,12 +13,13 @@ use Rattle.refusal.specs.declared.Refusal.{Refusal}
 use Rattle.refusal.specs.declared.Refusal.the-variants.{BadMark}
 use Rattle.extrinsics.specs.Grid.{Grid}
 use Rattle.extrinsics.specs.Outcome.{gridRefusal, Answers}
-use Rattle.extrinsics.specs.Direct.{sizeRefusal, countRefusal, lengthRefusal, lowestBadMark, markRefusal, cellCount, inputRefusal, directGrid, directRefusal, Direct, maskOf}
+use Rattle.inputs.specs.Inputs.{sizeRefusal, countRefusal, lengthRefusal, lowestBadMark, markRefusal, cellCount, inputRefusal, maskOf}
+use Rattle.extrinsics.specs.Direct.{directGrid, directRefusal, Direct}
 use Rattle.extrinsics.specs.Rig.{rigGrid, Fitting}
 use Rattle.extrinsics.specs.declared.Outcome.{Outcome}
 use Rattle.extrinsics.specs.declared.Outcome.the-variants.{Refused}
-use Rattle.extrinsics.proofs.Answering.{firstOf-some, firstOf-none, firstOf-none-all, AllNone, refuseAt-nothing, Sizes, sizeRefusal-none, Lengths, lengthRefusal-none}
-use Rattle.extrinsics.proofs.Lowest.{lowest-none-fails}
+use Rattle.inputs.proofs.Answering.{firstOf-some, firstOf-none, firstOf-none-all, AllNone, refuseAt-nothing, Sizes, sizeRefusal-none, Lengths, lengthRefusal-none}
+use Rattle.inputs.proofs.Lowest.{lowest-none-fails}
 use Rattle.extrinsics.proofs.MarkedGrid.{denseRig, fitting-denseRig, rigGrid-directGrid}
 use Rattle.extrinsics.proofs.Solving.{answers-refused}
 

@@ -6,9 +6,9 @@ use native.Mathlib.Omega.{arith}
 use mathlib.Core.Path.{_≡_, refl, sym, ap, _∙_}
 use mathlib.Core.List.{List, [], _∷_, _++_, append-nil, append-assoc, foldl}
 use lib.ListN.{length, length-append}
-use Rattle.arithmetic.specs.Average.{plusPose, taken}
+use Rattle.average.specs.Average.{plusPose, taken}
 use Rattle.arithmetic.specs.declared.pose.Pose.{Pose}
-use Rattle.arithmetic.proofs.Averaging.{taken-append}
+use Rattle.average.proofs.Averaging.{taken-append}
 use Rattle.extrinsics.specs.Estimate.{gather, linkCandidate, targetCandidate}
 use Rattle.extrinsics.specs.declared.grid.Cell.{Cell}
 use Rattle.extrinsics.specs.declared.grid.Cell.the-variants.{Empty, Held}

@@ -10,14 +10,14 @@ use lib.Seq.{getD-set-same, getD-set-other}
 use lib.Dec.{T}
 use Rattle.arithmetic.specs.Pose.{identityPose, mulPose}
 use Rattle.arithmetic.specs.declared.pose.Pose.{Pose}
-use Rattle.extrinsics.specs.Limits.{maxCameras, notPlacedByte}
-use Rattle.extrinsics.specs.Layers.{spotAt}
-use Rattle.extrinsics.specs.Trees.{linksByte, treeOf}
+use Rattle.chains.specs.Limits.{maxCameras, notPlacedByte}
+use Rattle.chains.specs.Layers.{spotAt}
+use Rattle.chains.specs.Trees.{linksByte, treeOf}
 use Rattle.extrinsics.specs.Grid.{Grid, spots, hasPlace, parent, linkCount}
 use Rattle.extrinsics.specs.Estimate.{averagedLink, rigSe3Cam}
 use Rattle.extrinsics.specs.Placed.{nowhere, PlacedTo, PlacedAll}
-use Rattle.extrinsics.specs.declared.tree.Tree.{Tree}
-use Rattle.extrinsics.proofs.TreeBytes.{linksByte-isPlaced, linksByte-linksOf, parentByte-parentOf, treeOf-links, treeOf-parent}
+use Rattle.chains.specs.declared.Tree.{Tree}
+use Rattle.chains.proofs.TreeBytes.{linksByte-isPlaced, linksByte-linksOf, parentByte-parentOf, treeOf-links, treeOf-parent}
 use Rattle.extrinsics.proofs.RigPoses.{spots-layered, rigSe3Cam-reference, rigSe3Cam-parent}
 
 -- The cameras before `camera` are placed to that layer, and all cameras to the layers before it.

@@ -7,12 +7,12 @@ use mathlib.Core.Bool.{not}
 use lib.ListN.{getD}
 use lib.Dec.{eqb}
 use borrow.Author.Tests.{ne-eqb}
-use Rattle.extrinsics.specs.Limits.{maxCameras, notPlacedByte}
-use Rattle.extrinsics.specs.Layers.{Spot, notPlaced, placed, isPlaced, spotAt}
+use Rattle.chains.specs.Limits.{maxCameras, notPlacedByte}
+use Rattle.chains.specs.Layers.{Spot, notPlaced, placed, isPlaced, spotAt}
 use Rattle.extrinsics.specs.Grid.{Grid, sharedViews, spots, hasPlace}
-use Rattle.extrinsics.specs.Trees.{linksByte, treeOf}
-use Rattle.extrinsics.proofs.Tabulated.{getD-tabulate}
-use Rattle.extrinsics.proofs.Theorem.{placed-final}
+use Rattle.chains.specs.Trees.{linksByte, treeOf}
+use Rattle.chains.proofs.Tabulated.{getD-tabulate}
+use Rattle.chains.proofs.Theorem.{placed-final}
 
 module _ (g : Grid) (fits : g .cameras ≤ maxCameras) (c : ℕ) (inside : c < g .cameras) where
   links-treeOf : getD (treeOf (spots g) .links) c 0 ≡ linksByte (spotAt (spots g) c)

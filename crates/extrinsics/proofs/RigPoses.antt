@@ -5,10 +5,10 @@ use mathlib.Core.Path.{_≡_, sym, ap}
 use mathlib.Core.Logic.{_≢_}
 use lib.Dec.{T}
 use Rattle.arithmetic.specs.Pose.{identityPose, mulPose}
-use Rattle.extrinsics.specs.Layered.{LayeredSpots}
+use Rattle.chains.specs.Layered.{LayeredSpots}
 use Rattle.extrinsics.specs.Grid.{Grid, sharedViews, spots, hasPlace, parent}
 use Rattle.extrinsics.specs.Estimate.{averagedLink, poseAfter, rigSe3Cam}
-use Rattle.extrinsics.proofs.Theorem.{layered}
+use Rattle.chains.proofs.Theorem.{layered}
 
 module _ (g : Grid) (inside : g .reference < g .cameras) where
   -- The chain theorem, for the spots of a grid.

@@ -17,19 +17,20 @@ use Rattle.arithmetic.specs.Pose.{flat}
 use Rattle.refusal.specs.Table.{refuseIf, firstOf}
 use Rattle.refusal.specs.declared.Refusal.{Refusal}
 use Rattle.refusal.specs.declared.Refusal.the-variants.{NotFinite, Unreached, EmptyView}
-use Rattle.extrinsics.specs.Masks.{inMask, sharedBy}
-use Rattle.extrinsics.specs.Layers.{layers}
+use Rattle.chains.specs.Masks.{inMask, sharedBy}
+use Rattle.chains.specs.Layers.{layers}
 use Rattle.extrinsics.specs.Grid.{Grid, holds, spots, hasPlace, parent, linkCount}
 use Rattle.extrinsics.specs.Estimate.{gather, transforms, chains, rigSe3Cam, rigSe3Target}
-use Rattle.extrinsics.specs.Outcome.{powerSum, lowestNotFinite, notFinite, unreachedSet, unreached, lowestEmptyView, emptyView, gridRefusal, outcomeOf, answered, Answers}
+use Rattle.inputs.specs.Finding.{powerSum}
+use Rattle.extrinsics.specs.Outcome.{lowestNotFinite, notFinite, unreachedSet, unreached, lowestEmptyView, emptyView, gridRefusal, outcomeOf, answered, Answers}
 use Rattle.extrinsics.specs.Rig.{rigGrid, Fitting}
 use Rattle.extrinsics.specs.Placed.{AllPlaced, Written}
 use Rattle.extrinsics.specs.declared.Outcome.the-variants.{Refused, Solved}
 use Rattle.extrinsics.specs.declared.grid.Rig.{Rig}
 use Rattle.extrinsics.proofs.Filling.{length-gather}
-use Rattle.extrinsics.proofs.Reading.{layers-of-masks}
+use Rattle.chains.proofs.Reading.{layers-of-masks}
 use Rattle.extrinsics.proofs.ViewCells.{holds-inMask}
-use Rattle.extrinsics.proofs.Answering.{refuseAt-some, refuseAt-none, firstOf-some, firstOf-none}
+use Rattle.inputs.proofs.Answering.{refuseAt-some, refuseAt-none, firstOf-some, firstOf-none}
 
 -- ---- the tree of a rig
 

@@ -10,15 +10,15 @@ use lib.Seq.{take-at, drop-at, drop-drop}
 use lib.Ieee.{Float}
 use Rattle.arithmetic.specs.Pose.{flat}
 use Rattle.arithmetic.specs.declared.pose.Pose.{Pose}
-use Rattle.extrinsics.specs.Limits.{maxCameras}
+use Rattle.chains.specs.Limits.{maxCameras}
 use Rattle.extrinsics.specs.Grid.{Grid, spots, parent, linkCount}
-use Rattle.extrinsics.specs.Trees.{treeOf, parentAt, linksAt}
+use Rattle.chains.specs.Trees.{treeOf, parentAt, linksAt}
 use Rattle.extrinsics.specs.Estimate.{gather, rigSe3Cam, rigSe3Target, transforms, chains}
 use Rattle.extrinsics.specs.Placed.{nowhere, AllPlaced, PlacedAll}
-use Rattle.extrinsics.specs.declared.tree.Tree.{Tree}
+use Rattle.chains.specs.declared.Tree.{Tree}
 use Rattle.extrinsics.proofs.Gathering.{gather-agree}
 use Rattle.extrinsics.proofs.Filling.{put-tail, length-gather, length-filled}
-use Rattle.extrinsics.proofs.Reading.{parentAt-placed, linksAt-placed}
+use Rattle.chains.proofs.Reading.{parentAt-placed, linksAt-placed}
 
 module _ (g : Grid) where
   -- The cameras are written from the front, then the views into the part behind them.

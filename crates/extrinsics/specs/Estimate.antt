@@ -1,10 +1,10 @@
 -- The poses of a solved rig, by document 01, "Chains": averaged links, rig poses of cameras (T_R_C) and target poses of views (T_R_T).
--- Rests on the averages and products of `arithmetic` and the spots of `Grid`.
+-- Rests on the averages and products of `average` and `arithmetic`, and the spots of `Grid`.
 use Prim.Native.Nat.{ℕ, zero, suc}
 use mathlib.Core.List.{List, [], _∷_, _++_}
 use lib.Ieee.{Float}
 use Rattle.arithmetic.specs.Pose.{mulPose, inversePose, identityPose, flat}
-use Rattle.arithmetic.specs.Average.{averageIsometries}
+use Rattle.average.specs.Average.{averageIsometries}
 use Rattle.arithmetic.specs.declared.pose.Pose.{Pose}
 use Rattle.extrinsics.specs.Grid.{Grid, cellOf, parent, linkCount}
 use Rattle.extrinsics.specs.declared.grid.Cell.{Cell}

@@ -4,8 +4,8 @@ use Prim.Native.Nat.{ℕ, _+_, _*_}
 use mathlib.Core.Bool.{Bool, true, false}
 use mathlib.Core.List.{List}
 use lib.ListN.{getD}
-use Rattle.extrinsics.specs.Shared.{shared}
-use Rattle.extrinsics.specs.Layers.{Spot, layers, spotAt, isPlaced, parentOf, linksOf}
+use Rattle.chains.specs.Shared.{shared}
+use Rattle.chains.specs.Layers.{Spot, layers, spotAt, isPlaced, parentOf, linksOf}
 use Rattle.extrinsics.specs.declared.grid.Cell.{Cell}
 use Rattle.extrinsics.specs.declared.grid.Cell.the-variants.{Empty, Held}
 

@@ -1,8 +1,8 @@
 -- What an estimate on a grid answers: refusal 7, 8 or 9, or the solved rig; and what then stands in the two lent answers.
 -- Rests on the spots of `Grid`, the poses of `Estimate` and the table of refusals.
-use Prim.Native.Nat.{ℕ, zero, suc, _+_, _*_, _^_}
+use Prim.Native.Nat.{ℕ, _*_}
 use mathlib.Core.Path.{_≡_}
-use mathlib.Core.Bool.{Bool, true, false, not, cond}
+use mathlib.Core.Bool.{Bool, true, false, not}
 use mathlib.Core.Option.{Option, none, some}
 use mathlib.Core.List.{List, [], _∷_, _++_}
 use lib.ListN.{length, getD, drop}
@@ -12,24 +12,13 @@ use Rattle.arithmetic.specs.Pose.{finitePose}
 use Rattle.refusal.specs.Table.{refuseIf, refuseAt, firstOf}
 use Rattle.refusal.specs.declared.Refusal.{Refusal}
 use Rattle.refusal.specs.declared.Refusal.the-variants.{NotFinite, Unreached, EmptyView}
+use Rattle.inputs.specs.Finding.{lowest, powerSum}
 use Rattle.extrinsics.specs.Grid.{Grid, holds, hasPlace}
 use Rattle.extrinsics.specs.Estimate.{transforms, chains}
 use Rattle.extrinsics.specs.declared.grid.Cell.{Cell}
 use Rattle.extrinsics.specs.declared.grid.Cell.the-variants.{Empty, Held}
-use Rattle.extrinsics.specs.declared.checks.Found.{Found}
-use Rattle.extrinsics.specs.declared.checks.Found.the-variants.{At, Nothing}
 use Rattle.extrinsics.specs.declared.Outcome.{Outcome}
 use Rattle.extrinsics.specs.declared.Outcome.the-variants.{Refused, Solved}
-
--- The lowest number below n that passes the test.
-unfoldable pub lowest : (ℕ → Bool) → ℕ → Option ℕ
-lowest test zero = none
-lowest test (suc n) = elim (lowest test n) [ some i ↦ some i | none ↦ cond (test n) (some n) none ]
-
--- "sums 2 to the power c over those" numbers below n that pass the test.
-unfoldable pub powerSum : (ℕ → Bool) → ℕ → ℕ
-powerSum test zero = 0
-powerSum test (suc n) = powerSum test n + cond (test n) (2 ^ n) 0
 
 -- "The numbers of an empty cell are ignored."
 unfoldable pub isNotFinite : Cell → Bool
@@ -90,9 +79,3 @@ pub record Answers (refusal : Option Refusal) (g : Grid) (first : List Float) (s
   pub outcome : r ≡ outcomeOf refusal
   pub first-answer : first′ ≡ answered refusal (transforms g) first
   pub second-answer : second′ ≡ answered refusal (chains g) second
-
--- ---- the answer of a search for a number
-
-unfoldable pub foundOf : Option ℕ → Found
-foundOf none = Nothing
-foundOf (some n) = At n

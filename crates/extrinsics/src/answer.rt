@@ -8,11 +8,13 @@ ghost use Rattle.extrinsics.specs.Estimate.{gather, rigSe3Target};
 ghost use Rattle.extrinsics.specs.Rig.{rigGrid, Fitting};
 ghost use Rattle.extrinsics.specs.Placed.{PlacedAll, nowhere};
 use crate::grid::Rig;
-use crate::poses::average_target;
-use crate::tree::MAX_CAMERAS;
-use crate::tree::Tree;
+use crate::grid::read_cell;
+use crate::poses::add_target;
 use arithmetic::pose::POSE_FLOATS;
 use arithmetic::pose::Pose;
+use average::Average;
+use chains::MAX_CAMERAS;
+use chains::Tree;
 
 // Each camera's seven numbers go into the part of the answer that begins at 7 times its index.
 pub(crate) fn write_cameras(rig_se3_cam: [Pose; MAX_CAMERAS], cameras: usize, answer: &mut [f64])
@@ -28,7 +30,7 @@ pub(crate) fn write_cameras(rig_se3_cam: [Pose; MAX_CAMERAS], cameras: usize, an
     }
 }
 
-// The same for the views, from the front of the part that is lent.
+// The same for the views, from the front of the part that is lent: the average of the candidates over the cameras of each, ascending.
 pub(crate) fn write_targets(
     rig: Rig,
     floats: &[f64],
@@ -39,10 +41,20 @@ pub(crate) fn write_targets(
     ensures { λ _. ⌜ now (answer .exit) ≡ gather (rig .views) (λ v. flat (rigSe3Target (rigGrid rig (now (floats .entry))) v)) ++ drop (7 * rig .views) (now (answer .entry)) ⌝ }
 {
     let views = rig.views;
+    let cameras = rig.cameras;
+    let stride = rig.stride;
     let mut view = 0;
     while view < views {
+        let row = view * stride;
+        let mut sum = Average::new();
+        let mut camera = 0;
+        while camera < cameras {
+            let of_camera = read_cell(rig.masks[camera], floats, view, row + camera);
+            sum = add_target(sum, rig_se3_cam[camera], of_camera);
+            camera += 1;
+        }
         let at = POSE_FLOATS * view;
-        let pose = average_target(rig, floats, rig_se3_cam, view);
+        let pose = sum.mean();
         pose.write(&mut answer[at..]);
         view += 1;
     }

@@ -5,21 +5,17 @@ ghost use mathlib.Core.Logic.{_↔_};
 ghost use lib.ListN.{getD};
 ghost use lib.Dec.{T};
 ghost use Rattle.extrinsics.specs.Grid.{spots};
-ghost use Rattle.extrinsics.specs.Trees.{treeOf};
-ghost use Rattle.extrinsics.specs.Masks.{inMask};
+ghost use Rattle.chains.specs.Trees.{treeOf};
+ghost use Rattle.chains.specs.Masks.{inMask};
 ghost use Rattle.extrinsics.specs.Rig.{rigGrid, Fitting};
-ghost use Rattle.extrinsics.specs.Outcome.{lowestNotFinite, unreachedSet, lowestEmptyView, isNotFinite, foundOf};
+ghost use Rattle.inputs.specs.Finding.{foundOf};
+ghost use Rattle.extrinsics.specs.Outcome.{lowestNotFinite, unreachedSet, lowestEmptyView, isNotFinite};
 use crate::grid::Cell;
 use crate::grid::Rig;
 use crate::grid::read_cell;
-use crate::tree::NOT_PLACED;
-use crate::tree::Tree;
-
-// What a search for a number finds.
-pub enum Found {
-    At(u32),
-    Nothing,
-}
+use chains::NOT_PLACED;
+use chains::Tree;
+use inputs::Found;
 
 // The numbers of an empty cell are ignored.
 fn is_not_finite(cell: Cell) -> bool

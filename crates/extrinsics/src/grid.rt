@@ -3,12 +3,9 @@ ghost use Prim.Native.Nat.{_+_, _*_, _≤_, _<_};
 ghost use mathlib.Core.Path.{_≡_};
 ghost use lib.ListN.{length};
 ghost use Rattle.extrinsics.specs.Rig.{maskedCell};
-use crate::tree::MAX_CAMERAS;
 use arithmetic::pose::POSE_FLOATS;
 use arithmetic::pose::Pose;
-
-// As many views as a rig may have: one for each bit of a mask.
-pub const MAX_VIEWS: usize = 64;
+use chains::MAX_CAMERAS;
 
 // What one view holds of one camera: nothing, or the target's pose T_C_T.
 pub enum Cell {

@@ -4,7 +4,7 @@ ghost use Prim.Native.Nat.{_+_, _*_, _≤_};
 ghost use mathlib.Core.Path.{_≡_};
 ghost use lib.ListN.{length};
 ghost use Rattle.extrinsics.specs.Grid.{spots};
-ghost use Rattle.extrinsics.specs.Trees.{treeOf};
+ghost use Rattle.chains.specs.Trees.{treeOf};
 ghost use Rattle.extrinsics.specs.Rig.{rigGrid, Fitting};
 ghost use Rattle.extrinsics.specs.Outcome.{gridRefusal, Answers};
 ghost use Rattle.extrinsics.specs.Placed.{AllPlaced, Written};
@@ -12,16 +12,17 @@ ghost use Rattle.extrinsics.specs.Direct.{Direct};
 
 pub mod answer;
 pub mod checks;
-pub mod direct;
 pub mod grid;
-pub mod input;
 pub mod poses;
-pub mod tree;
 
-use crate::checks::Found;
-use crate::direct::Checked;
 use crate::grid::Rig;
-use crate::tree::Tree;
+use chains::Tree;
+use chains::layer_cameras;
+use inputs::Checked;
+use inputs::Found;
+use inputs::camera_count;
+use inputs::check_input;
+use inputs::masks_of;
 use refusal::Refusal;
 
 // What an estimate answers. The poses of a solved rig stand in the lent answers.
@@ -52,7 +53,7 @@ pub fn solve(rig: Rig, floats: &[f64], transforms: &mut [f64], chains: &mut [u8]
         return Outcome::Refused(Refusal::NotFinite(cell));
     }
     let masks = rig.masks;
-    let tree = tree::layer_cameras(masks, rig.cameras, rig.reference);
+    let tree = layer_cameras(masks, rig.cameras, rig.reference);
     let unreached = checks::unreached_cameras(rig, floats, tree);
     if unreached != 0 {
         return Outcome::Refused(Refusal::Unreached(unreached));
@@ -77,7 +78,7 @@ pub fn estimate_extrinsics_from_cam_target_poses(
     ensures { λ r. ⌜ Direct (now (counts .entry)) (now (marks .entry)) (now (floats .entry)) reference (now (transforms .entry)) (now (chains .entry)) r (now (transforms .exit)) (now (chains .exit)) ⌝ }
 {
     let at = reference as usize;
-    if let Checked::Refused(refusal) = input::check_input(
+    if let Checked::Refused(refusal) = check_input(
         counts,
         marks,
         floats.len(),
@@ -88,9 +89,9 @@ pub fn estimate_extrinsics_from_cam_target_poses(
         return Outcome::Refused(refusal);
     }
     let views = counts.len();
-    let cameras = input::camera_count(counts);
+    let cameras = camera_count(counts);
     let rig = Rig {
-        masks: direct::masks_of(marks, views, cameras),
+        masks: masks_of(marks, views, cameras),
         views: views,
         cameras: cameras,
         reference: at,

@@ -1,21 +1,21 @@
-// The poses of a rig: averaged links between cameras, the rig poses of cameras in the order of their layers, and the target
-// poses of views. T_A_B is the transform from frame B to frame A; R is the rig, C a camera, T the target.
-ghost use Prim.Native.Nat.{_+_, _<_};
+// The poses of a rig: averaged links between cameras, the rig poses of cameras in the order of their layers, and the candidates for
+// the target poses of views. T_A_B is the transform from frame B to frame A; R is the rig, C a camera, T the target.
+ghost use Prim.Native.Nat.{_<_};
 ghost use mathlib.Core.Path.{_≡_};
 ghost use mathlib.Core.List.{foldl};
-ghost use Rattle.arithmetic.specs.Average.{plusPose};
+ghost use Rattle.average.specs.Average.{plusPose};
 ghost use Rattle.extrinsics.specs.Grid.{spots};
-ghost use Rattle.extrinsics.specs.Trees.{treeOf};
-ghost use Rattle.extrinsics.specs.Estimate.{linkCandidate, averagedLink, targetCandidate, rigSe3Target};
+ghost use Rattle.chains.specs.Trees.{treeOf};
+ghost use Rattle.extrinsics.specs.Estimate.{linkCandidate, averagedLink, targetCandidate};
 ghost use Rattle.extrinsics.specs.Rig.{rigGrid, Fitting};
-ghost use Rattle.extrinsics.specs.Placed.{AllPlaced, PlacedTo, PlacedAll};
+ghost use Rattle.extrinsics.specs.Placed.{AllPlaced, PlacedAll};
 use crate::grid::Cell;
 use crate::grid::Rig;
 use crate::grid::read_cell;
-use crate::tree::MAX_CAMERAS;
-use crate::tree::Tree;
-use arithmetic::average::Average;
 use arithmetic::pose::Pose;
+use average::Average;
+use chains::MAX_CAMERAS;
+use chains::Tree;
 
 // The candidate of one view, where it holds both: T_Cparent_C = T_Cparent_T * (T_C_T)^(-1).
 fn add_link(sum: Average, of_parent: Cell, of_camera: Cell) -> Average
@@ -51,74 +51,36 @@ fn average_link(rig: Rig, floats: &[f64], parent: usize, camera: usize) -> Pose
     sum.mean()
 }
 
-// The rig poses with those of one more layer: T_R_C = T_R_Cparent * T_Cparent_C, the parent being in the layer before.
-fn place_layer(
-    rig: Rig,
-    floats: &[f64],
-    tree: Tree,
-    rig_se3_cam: [Pose; MAX_CAMERAS],
-    layer: u8,
-) -> [Pose; MAX_CAMERAS]
-    requires { ⌜ Fitting rig (now floats) × (tree ≡ treeOf (spots (rigGrid rig (now floats)))) × (0 < layer) × (layer < 16) × PlacedTo (rigGrid rig (now floats)) layer «rig_se3_cam» ⌝ }
-    ensures { λ r. ⌜ PlacedTo (rigGrid rig (now (floats .entry))) (layer + 1) r ⌝ }
-{
-    let cameras = rig.cameras;
-    let mut poses = rig_se3_cam;
-    let mut camera = 0;
-    while camera < cameras {
-        if tree.links[camera] == layer {
-            let parent = tree.parent[camera] as usize;
-            let link = average_link(rig, floats, parent, camera);
-            poses[camera] = poses[parent].product(link);
-        }
-        camera += 1;
-    }
-    poses
-}
-
-// The rig poses of all cameras, layer after layer. The reference, layer 0, is the rig's own frame.
+// The rig poses of all cameras, layer after layer: T_R_C = T_R_Cparent * T_Cparent_C, the parent being in the layer before. The reference,
+// layer 0, is the rig's own frame. The poses stay in one place: handed from function to function, all sixteen would be copied each time.
 pub(crate) fn place_cameras(rig: Rig, floats: &[f64], tree: Tree) -> [Pose; MAX_CAMERAS]
     requires { ⌜ Fitting rig (now floats) × (tree ≡ treeOf (spots (rigGrid rig (now floats)))) × AllPlaced (rigGrid rig (now floats)) ⌝ }
     ensures { λ r. ⌜ PlacedAll (rigGrid rig (now (floats .entry))) r ⌝ }
 {
+    let cameras = rig.cameras;
     let mut poses = [Pose::identity(); MAX_CAMERAS];
-    let mut layer = 1u8;
-    while (layer as usize) < MAX_CAMERAS {
-        let placed = place_layer(rig, floats, tree, poses, layer);
-        poses = placed;
+    let mut layer = 1usize;
+    while layer < cameras {
+        let mut camera = 0;
+        while camera < cameras {
+            if tree.links[camera] as usize == layer {
+                let parent = tree.parent[camera] as usize;
+                let link = average_link(rig, floats, parent, camera);
+                poses[camera] = poses[parent].product(link);
+            }
+            camera += 1;
+        }
         layer += 1;
     }
     poses
 }
 
 // The candidate of one camera, where the view holds its pose: T_R_T = T_R_C * T_C_T.
-fn add_target(sum: Average, rig_se3_cam: Pose, of_camera: Cell) -> Average
+pub(crate) fn add_target(sum: Average, rig_se3_cam: Pose, of_camera: Cell) -> Average
     ensures { λ r. ⌜ r ≡ foldl plusPose sum (targetCandidate «rig_se3_cam» «of_camera») ⌝ }
 {
     match of_camera {
         Cell::Empty => sum,
         Cell::Held(p) => sum.add(rig_se3_cam.product(p)),
     }
-}
-
-// The average of the candidates over the cameras of one view, ascending.
-pub(crate) fn average_target(
-    rig: Rig,
-    floats: &[f64],
-    rig_se3_cam: [Pose; MAX_CAMERAS],
-    view: usize,
-) -> Pose
-    requires { ⌜ Fitting rig (now floats) × (view < rig .views) × PlacedAll (rigGrid rig (now floats)) «rig_se3_cam» ⌝ }
-    ensures { λ r. ⌜ r ≡ rigSe3Target (rigGrid rig (now (floats .entry))) view ⌝ }
-{
-    let cameras = rig.cameras;
-    let row = view * rig.stride;
-    let mut sum = Average::new();
-    let mut camera = 0;
-    while camera < cameras {
-        let of_camera = read_cell(rig.masks[camera], floats, view, row + camera);
-        sum = add_target(sum, rig_se3_cam[camera], of_camera);
-        camera += 1;
-    }
-    sum.mean()
 }

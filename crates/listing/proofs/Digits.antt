@@ -4,11 +4,11 @@ use native.Mathlib.Nat.{pow-succ', one-le-pow, pow-le-pow-right}
 use native.Mathlib.Decide.{decLt}
 use native.Mathlib.Omega.{arith}
 use mathlib.Core.Path.{_≡_, refl, sym, ap, _∙_, subst}
-use mathlib.Core.Bool.{true, false, not, true≢false}
+use mathlib.Core.Bool.{true}
 use mathlib.Core.List.{List, [], _∷_, _++_}
 use lib.ListN.{length, length-append}
 use lib.Dec.{T}
-use lib.Ieee.{Float, nan, inf, fin, binary64, ne, isNan, toBits}
+use lib.Ieee.{Float, binary64, ne, toBits}
 use lib.Ieee.Compare.{differs-from-itself}
 use borrow.Author.Tests.{lt-ltb, le-ltb}
 use Rattle.io.specs.Digits.{glyph, digits, Fewest}
@@ -85,12 +85,6 @@ length-decimalText-le k n h = length-decimalWithin-le 20 k n h
 pub toBits-nan : (x : Float) → ne x x ≡ true → 0x7ff8_0000_0000_0000 ≡ toBits binary64 x
 unfolding toBits
 toBits-nan x h = ap (toBits binary64) (sym (differs-from-itself x (subst T (sym h) tt)))
-
-pub not-nan : (x : Float) → ne x x ≡ false → T (not (isNan x))
-unfolding ne isNan
-not-nan nan h = absurd (true≢false h)
-not-nan (inf s) h = tt
-not-nan (fin s m e) h = tt
 
 pub fewest-sixteen : (n k : ℕ) → n < 2 ^ 64 → Fewest 16 16 n k → k ≡ 16
 fewest-sixteen n k h f = omega (arith, f .0, fewest-le 16 16 n k 16 (omega arith) (omega arith) h f)

@@ -7,9 +7,9 @@ use lib.ListN.{length}
 use lib.Dec.{leb}
 use lib.Ieee.{Float}
 use borrow.Author.Tests.{leb-true}
-use Rattle.extrinsics.specs.Limits.{maxViews, maxCameras}
+use Rattle.chains.specs.Limits.{maxViews, maxCameras}
 use Rattle.session.specs.declared.Reply.the-variants.{Solved}
-use Rattle.session.proofs.Tests.{and-true}
+use Rattle.command.proofs.Tests.{and-true}
 use Rattle.listing.specs.Listing.{solvedText, replyText, listingBytes, sized, fits, written}
 
 module _ (cameras views : ℕ) (first : List Float) (second : List ℕ) where

@@ -3,3 +3,4 @@ pub mod Writing
 pub mod Digits
 pub mod Fitting
 pub mod Examples
+pub mod WrittenCalls

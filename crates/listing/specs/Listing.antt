@@ -11,7 +11,7 @@ use Rattle.arithmetic.specs.Pose.{flat, poseAt}
 use Rattle.arithmetic.specs.declared.pose.Pose.{Pose}
 use Rattle.refusal.specs.Table.{numberOf, detailOf}
 use Rattle.refusal.specs.declared.Refusal.{Refusal}
-use Rattle.extrinsics.specs.Limits.{maxViews, maxCameras}
+use Rattle.chains.specs.Limits.{maxViews, maxCameras}
 use Rattle.extrinsics.specs.Estimate.{gather}
 use Rattle.session.specs.declared.Reply.{Reply}
 use Rattle.session.specs.declared.Reply.the-variants.{End, Accepted, Solved, Refused}

@@ -14,8 +14,8 @@ abbrev pub floatBytes : ℕ
 floatBytes = 17
 
 -- Seven floats and the line's end.
-abbrev pub poseBytes : ℕ
-poseBytes = 7 * floatBytes + 1
+abbrev pub poseFieldsBytes : ℕ
+poseFieldsBytes = 7 * floatBytes + 1
 
 -- The lines: two letters or one, the fields, and the line's end.
 abbrev pub refusalBytes : ℕ
@@ -25,7 +25,7 @@ abbrev pub okBytes : ℕ
 okBytes = 2 + 2 * smallBytes + 1
 
 abbrev pub cameraBytes : ℕ
-cameraBytes = 1 + 3 * smallBytes + poseBytes
+cameraBytes = 1 + 3 * smallBytes + poseFieldsBytes
 
 abbrev pub viewBytes : ℕ
-viewBytes = 1 + smallBytes + poseBytes
+viewBytes = 1 + smallBytes + poseFieldsBytes

@@ -9,13 +9,14 @@ ghost use Rattle.listing.specs.Listing.{refusalLine, listingBytes, sized
 ghost use Rattle.listing.specs.Writing.{Front};
 
 mod lines;
+pub mod step_text;
 mod text;
 
 use crate::lines::put_refusal;
 use crate::lines::put_solved;
 use arithmetic::pose::POSE_FLOATS;
-use extrinsics::grid::MAX_VIEWS;
-use extrinsics::tree::MAX_CAMERAS;
+use chains::MAX_CAMERAS;
+use inputs::MAX_VIEWS;
 use refusal::Refusal;
 use session::Reply;
 

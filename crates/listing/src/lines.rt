@@ -1,7 +1,7 @@
 // The lines of a listing put into lent bytes at a place; each function answers the place behind what it put.
 ghost use Prim.Native.Nat.{_+_, _*_, _≤_};
 ghost use lib.ListN.{length};
-ghost use Rattle.extrinsics.specs.Limits.{maxViews, maxCameras};
+ghost use Rattle.chains.specs.Limits.{maxViews, maxCameras};
 ghost use Rattle.extrinsics.specs.Estimate.{gather};
 ghost use Rattle.listing.specs.Listing.{refusalLine, okLine, cameraLine, viewLine, cameraLineAt, viewLineAt, solvedText, listingBytes};
 ghost use Rattle.listing.specs.Widths.{refusalBytes, okBytes, cameraBytes, viewBytes};

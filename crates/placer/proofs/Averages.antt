@@ -11,7 +11,7 @@ use Rattle.refusal.specs.Table.{refuseIf, refuseAt, orElse, firstOf}
 use Rattle.refusal.specs.declared.Refusal.{Refusal}
 use Rattle.refusal.specs.declared.Refusal.the-variants.{InsufficientData, TooMany, NotFinite}
 use Rattle.placer.specs.Poses.{posesRefusal, listRefusal, lowestNotFinite, averageRefusal}
-use Rattle.extrinsics.proofs.Answering.{refuseAt-some, refuseAt-none, firstOf-some, firstOf-none, refuseIf-none, firstOf-none-all, or-false}
+use Rattle.inputs.proofs.Answering.{refuseAt-some, refuseAt-none, firstOf-some, firstOf-none, refuseIf-none, firstOf-none-all, or-false}
 
 -- The last check decides alone.
 pub firstOf-last : (check : Option Refusal) → orElse check none ≡ check

@@ -16,13 +16,13 @@ use lib.IntN.{pos}
 use lib.Dec.{eqb}
 use Rattle.arithmetic.specs.Double.{_⊕_, _⊗_, _⊘_, Zero}
 use Rattle.arithmetic.specs.Pose.{zeroVec, normSquared, poseAt, posesIn, finiteVec, finiteQuat, finitePose, identityQuat}
-use Rattle.arithmetic.specs.Average.{zeroQuat, normalize, sign, plusTranslation, plusRotation, meanRotation, averageIsometries, firstRotation, translationSum, rotationSum, overQuat}
+use Rattle.average.specs.Average.{zeroQuat, normalize, sign, plusTranslation, plusRotation, meanRotation, averageIsometries, firstRotation, translationSum, rotationSum, overQuat}
 use Rattle.arithmetic.specs.declared.pose.Vec3.{Vec3}
 use Rattle.arithmetic.specs.declared.pose.Quaternion.{Quaternion}
 use Rattle.arithmetic.specs.declared.pose.Pose.{Pose}
-use Rattle.extrinsics.specs.Outcome.{lowest}
+use Rattle.inputs.specs.Finding.{lowest}
 use Rattle.placer.specs.Poses.{lowestNotFinite}
-use Rattle.extrinsics.proofs.Lowest.{lowest-none-more}
+use Rattle.inputs.proofs.Lowest.{lowest-none-more}
 
 -- ---- what is not finite
 

@@ -8,13 +8,14 @@ use lib.ListN.{length, drop}
 use lib.Ieee.{Float}
 use Rattle.refusal.specs.declared.Refusal.{Refusal}
 use Rattle.extrinsics.specs.Outcome.{answered, outcomeOf}
-use Rattle.extrinsics.specs.Direct.{checkedOf, Direct, directRefusal}
+use Rattle.inputs.specs.Inputs.{checkedOf}
+use Rattle.extrinsics.specs.Direct.{Direct, directRefusal}
 use Rattle.extrinsics.specs.declared.Outcome.{Outcome}
-use Rattle.extrinsics.specs.declared.direct.Checked.{Checked}
-use Rattle.extrinsics.specs.declared.direct.Checked.the-variants.{Refused, Passed}
+use Rattle.inputs.specs.declared.Checked.{Checked}
+use Rattle.inputs.specs.declared.Checked.the-variants.{Refused, Passed}
 use Rattle.placer.specs.Code.{codeOf, codeOfOutcome, replyOf}
 use Rattle.placer.specs.Exports.{Replied, Estimated}
-use Rattle.extrinsics.proofs.Answering.{checkedOf-refused, checkedOf-passed}
+use Rattle.inputs.proofs.Answering.{checkedOf-refused, checkedOf-passed}
 
 module _ (refusal : Option Refusal) (new old : List Float) where
   pub replied-some : (r : Refusal) → refusal ≡ some r → {code : ℕ} → code ≡ codeOf r → Replied refusal new old code old

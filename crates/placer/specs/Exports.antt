@@ -6,7 +6,7 @@ use mathlib.Core.List.{List}
 use lib.ListN.{length}
 use lib.Ieee.{Float}
 use Rattle.arithmetic.specs.Pose.{flat, posesIn}
-use Rattle.arithmetic.specs.Average.{averageIsometries}
+use Rattle.average.specs.Average.{averageIsometries}
 use Rattle.refusal.specs.declared.Refusal.{Refusal}
 use Rattle.extrinsics.specs.Estimate.{transforms, chains}
 use Rattle.extrinsics.specs.Outcome.{answered}

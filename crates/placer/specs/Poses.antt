@@ -1,5 +1,5 @@
 -- Lists of poses lent as floats, seven each: what is refused of them, their product, and their inverses.
--- Rests on the poses and the averages of `arithmetic`.
+-- Rests on the poses of `arithmetic` and the averages of `average`.
 use Prim.Native.Nat.{ℕ, _*_, _/_, _%_}
 use mathlib.Core.Bool.{not, _||_}
 use mathlib.Core.Option.{Option}
@@ -13,7 +13,7 @@ use Rattle.refusal.specs.Table.{refuseIf, refuseAt, firstOf}
 use Rattle.refusal.specs.declared.Refusal.{Refusal}
 use Rattle.refusal.specs.declared.Refusal.the-variants.{InsufficientData, TooMany, WrongLength, NotFinite}
 use Rattle.extrinsics.specs.Estimate.{gather}
-use Rattle.extrinsics.specs.Outcome.{lowest}
+use Rattle.inputs.specs.Finding.{lowest}
 
 abbrev pub poseCount : List Float → ℕ
 poseCount floats = length floats / 7

@@ -1,7 +1,7 @@
 // The static library: what C and Rust call. Each export answers 0, or what it refuses as number times 2^32 plus detail, and a
 // refusal writes nothing. No export asks anything of its caller but that the slices are real. include/placer.h is the C header.
 ghost use mathlib.Core.Path.{_≡_};
-ghost use Rattle.arithmetic.specs.Root.{rootOf};
+ghost use Rattle.root.specs.Root.{rootOf};
 ghost use Rattle.placer.specs.Exports.{Estimated, Averaged, Multiplied, Inverted};
 ghost use Rattle.placer.specs.Step.{Stepped};
 
@@ -21,12 +21,12 @@ use crate::record::is_record;
 use crate::record::not_a_record;
 use crate::record::read_record;
 use crate::record::write_record;
-use arithmetic::average::average_floats;
-use arithmetic::root::sqrt;
-use extrinsics::checks::Found;
-use extrinsics::direct::Checked;
+use average::average_floats;
 use extrinsics::estimate_extrinsics_from_cam_target_poses;
+use inputs::Checked;
+use inputs::Found;
 use refusal::Refusal;
+use root::sqrt;
 use session::obey;
 
 // The square root of IEEE 754, for every double.

@@ -4,15 +4,15 @@ ghost use mathlib.Core.Path.{_≡_};
 ghost use mathlib.Core.List.{_++_};
 ghost use lib.ListN.{length, drop};
 ghost use Rattle.arithmetic.specs.Pose.{posesIn};
-ghost use Rattle.arithmetic.specs.Average.{averageIsometries};
-ghost use Rattle.extrinsics.specs.Direct.{checkedOf};
-ghost use Rattle.extrinsics.specs.Outcome.{foundOf};
+ghost use Rattle.average.specs.Average.{averageIsometries};
+ghost use Rattle.inputs.specs.Inputs.{checkedOf};
+ghost use Rattle.inputs.specs.Finding.{foundOf};
 ghost use Rattle.placer.specs.Poses.{posesRefusal, listRefusal, lowestNotFinite, productOf, inversesOf};
-use arithmetic::average::MOST_POSES;
 use arithmetic::pose::POSE_FLOATS;
 use arithmetic::pose::Pose;
-use extrinsics::checks::Found;
-use extrinsics::direct::Checked;
+use average::MOST_POSES;
+use inputs::Checked;
+use inputs::Found;
 use refusal::Refusal;
 
 // 5: floats that are not seven for each pose, or an answer with less room than it needs.

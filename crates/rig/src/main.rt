@@ -1,22 +1,15 @@
 // Reads a stream of commands from standard input, has the session obey them one after the other, and prints what each answers.
-ghost use Prim.Native.Nat.{_<_};
-ghost use lib.ListN.{length};
 use libc::STDIN_FILENO;
 use libc::STDOUT_FILENO;
 use listing::LISTING_BYTES;
-use listing::write_reply;
-use session::Session;
-use session::Step;
+use listing::step_text::obey_and_write;
+use session::BUFFER_FLOATS;
+use session::FIRST_FLOATS;
+use session::MAX_STREAM;
+use session::SECOND_BYTES;
 
 // One byte more than a stream may have, so that a longer one is read far enough to be refused.
-const INPUT_BYTES: usize = 65537;
-
-// What a session is lent: the coordinates of 64 views of 16 cameras, and the two answers.
-const BUFFER_FLOATS: usize = 7168;
-
-const FIRST_FLOATS: usize = 560;
-
-const SECOND_BYTES: usize = 32;
+const INPUT_BYTES: usize = MAX_STREAM + 1;
 
 fn main() {
     let mut input = [0u8; INPUT_BYTES];
@@ -34,6 +27,8 @@ fn main() {
     );
 }
 
+// Each command obeyed and its reply printed, one after the other: the loop that `loopText` of crates/printing tells of, which no contract
+// can say. An output that cannot be written to ends the stream.
 fn obey_all(
     stream: &[u8],
     buffer: &mut [f64],
@@ -44,38 +39,14 @@ fn obey_all(
     let mut session = session::fresh();
     let mut at = 0usize;
     while at < stream.len() {
-        let step = obey_and_print(session, stream, at, buffer, transforms, chains, text);
+        let answer = obey_and_write(session, stream, at, buffer, transforms, chains, text);
+        let step = answer.step;
+        let length = answer.length;
         session = step.session;
-        at = step.next;
+        if io::write_all(STDOUT_FILENO, &text[..length]) {
+            at = step.next;
+        } else {
+            at = stream.len();
+        }
     }
-}
-
-// One command obeyed and its reply printed. An output that cannot be written to ends the stream.
-fn obey_and_print(
-    session: Session,
-    stream: &[u8],
-    at: usize,
-    buffer: &mut [f64],
-    transforms: &mut [f64],
-    chains: &mut [u8],
-    text: &mut [u8],
-) -> Step
-    requires { ⌜ at < length (now stream) ⌝ }
-    ensures { λ r. ⌜ at < r .next ⌝ }
-{
-    let mut step = session::obey(session, stream, at, buffer, transforms, chains);
-    let reply = step.reply;
-    let after = step.session;
-    let length = write_reply(
-        reply,
-        after.cameras as usize,
-        after.views as usize,
-        transforms,
-        chains,
-        text,
-    );
-    if !io::write_all(STDOUT_FILENO, &text[..length]) {
-        step.next = stream.len();
-    }
-    step
 }

@@ -8,7 +8,7 @@ use mathlib.Core.Path.{_≡_}
 use mathlib.Core.Logic.{_⊎_, inl, inr}
 use mathlib.Core.Bool.{Bool, true, false, and-false}
 use Rattle.session.specs.Session.{allBelow}
-use Rattle.session.proofs.Tests.{and-true}
+use Rattle.command.proofs.Tests.{and-true}
 
 module _ (test : ℕ → Bool) where
   pub allBelow-more : (n : ℕ) → allBelow test n ≡ true → test n ≡ true → allBelow test (n + 1) ≡ true

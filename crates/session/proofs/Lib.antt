@@ -1,8 +1,4 @@
 -- Laws of `session` that belong to no one function, a file a topic.
-pub mod Tests
-pub mod Words
-pub mod Patterns
-pub mod OfferedPoses
 pub mod Refusals
 pub mod AllBelow
 pub mod PossibleRecords
@@ -13,3 +9,5 @@ pub mod PoseCommands
 pub mod SolveCommands
 pub mod PassedCalls
 pub mod ReadCommands
+pub mod Advancing
+pub mod SolvedCalls

@@ -12,7 +12,7 @@ use Rattle.refusal.specs.Table.{firstOf}
 use Rattle.refusal.specs.declared.Refusal.the-variants.{TooLong, WrongLength, Truncated}
 use Rattle.session.specs.Session.{bufferLength, possible}
 use Rattle.session.specs.Call.{State, maxStream, firstLength, secondLength, callRefusal}
-use Rattle.session.proofs.Tests.{or-false}
+use Rattle.command.proofs.Tests.{or-false}
 use Rattle.session.proofs.Refusals.{test-passed}
 
 pub record Ready (t : State) (stream : List ℕ) (at : ℕ) : Type 0 where

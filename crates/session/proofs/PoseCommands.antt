@@ -12,8 +12,8 @@ use Rattle.arithmetic.specs.Pose.{finitePose}
 use Rattle.arithmetic.specs.declared.pose.Pose.{Pose}
 use Rattle.refusal.specs.Table.{firstOf}
 use Rattle.refusal.specs.declared.Refusal.the-variants.{NoSize, OutsideRig, HeldAlready, NotFinite}
-use Rattle.extrinsics.specs.Masks.{inMask}
-use Rattle.session.specs.Command.{place}
+use Rattle.chains.specs.Masks.{inMask}
+use Rattle.command.specs.Command.{place}
 use Rattle.session.specs.Session.{hasSize, namedCell, commandRefusal, possible}
 use Rattle.session.specs.declared.Session.{Session}
 use Rattle.session.proofs.Refusals.{test-passed}

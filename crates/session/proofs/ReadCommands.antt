@@ -3,7 +3,7 @@ use Prim.Native.Nat.{ℕ, _+_}
 use mathlib.Core.Path.{_≡_, ap}
 use mathlib.Core.List.{List}
 use Rattle.refusal.specs.declared.Refusal.the-variants.{Truncated, UnknownCommand}
-use Rattle.session.specs.Command.{Command, complete, broken, unknown, parse}
+use Rattle.command.specs.Command.{Command, complete, broken, unknown, parse}
 use Rattle.session.specs.Call.{State, stopped, obeyed, read}
 
 module _ (t : State) (stream : List ℕ) (at : ℕ) where

@@ -9,11 +9,11 @@ use borrow.Author.Tests.{eqb-false, leb-false, ltb-false}
 use Rattle.refusal.specs.Table.{refuseIf, orElse, firstOf}
 use Rattle.refusal.specs.declared.Refusal.{Refusal}
 use Rattle.refusal.specs.declared.Refusal.the-variants.{InsufficientData, TooMany, InvalidReference}
-use Rattle.extrinsics.specs.Limits.{maxViews, maxCameras}
-use Rattle.extrinsics.specs.Direct.{sizeRefusal, checkedOf}
-use Rattle.extrinsics.specs.declared.direct.Checked.{Checked}
-use Rattle.extrinsics.specs.declared.direct.Checked.the-variants.{Refused, Passed}
-use Rattle.extrinsics.proofs.Answering.{checkedOf-refused, checkedOf-passed}
+use Rattle.chains.specs.Limits.{maxViews, maxCameras}
+use Rattle.inputs.specs.Inputs.{sizeRefusal, checkedOf}
+use Rattle.inputs.specs.declared.Checked.{Checked}
+use Rattle.inputs.specs.declared.Checked.the-variants.{Refused, Passed}
+use Rattle.inputs.proofs.Answering.{checkedOf-refused, checkedOf-passed}
 use Rattle.session.specs.Session.{isNone}
 
 -- A test that passed, and the checks after it.

@@ -8,8 +8,8 @@ use borrow.Author.Tests.{eq-eqb, ne-eqb}
 use Rattle.refusal.specs.Table.{refuseIf, orElse, firstOf}
 use Rattle.refusal.specs.declared.Refusal.{Refusal}
 use Rattle.refusal.specs.declared.Refusal.the-variants.{SizeAgain}
-use Rattle.extrinsics.specs.Direct.{sizeRefusal}
-use Rattle.session.specs.Command.{size}
+use Rattle.inputs.specs.Inputs.{sizeRefusal}
+use Rattle.command.specs.Command.{size}
 use Rattle.session.specs.Session.{commandRefusal}
 use Rattle.session.specs.declared.Session.{Session}
 

@@ -15,7 +15,7 @@ use Rattle.refusal.specs.declared.Refusal.the-variants.{NoSize}
 use Rattle.extrinsics.specs.Rig.{Fitting}
 use Rattle.extrinsics.specs.Outcome.{gridRefusal, outcomeOf, answered, Answers}
 use Rattle.extrinsics.specs.declared.Outcome.{Outcome}
-use Rattle.session.specs.Command.{solve}
+use Rattle.command.specs.Command.{solve}
 use Rattle.session.specs.Session.{bufferLength, rigOf, sessionGrid, commandRefusal, sessionAfter, bufferAfter, possible}
 use Rattle.session.specs.Call.{state, result, replyTo, firstAfter, secondAfter, stateAfter, obeyed}
 use Rattle.session.specs.declared.Session.{Session}

@@ -13,7 +13,7 @@ use Rattle.refusal.specs.declared.Refusal.{Refusal}
 use Rattle.refusal.specs.declared.Refusal.the-variants.{WrongLength, UnknownCommand, Truncated, TooLong}
 use Rattle.extrinsics.specs.Estimate.{transforms, chains}
 use Rattle.extrinsics.specs.Outcome.{answered}
-use Rattle.session.specs.Command.{Command, size, place, solve, Parsed, complete, broken, unknown, parse}
+use Rattle.command.specs.Command.{Command, size, place, solve, Parsed, complete, broken, unknown, parse}
 use Rattle.session.specs.Session.{bufferLength, sessionGrid, commandRefusal, sessionAfter, bufferAfter, possible}
 use Rattle.session.specs.declared.Session.{Session}
 use Rattle.session.specs.declared.Step.{Step}

@@ -12,14 +12,14 @@ use Rattle.arithmetic.specs.Pose.{finitePose, flat}
 use Rattle.refusal.specs.Table.{refuseIf, firstOf}
 use Rattle.refusal.specs.declared.Refusal.{Refusal}
 use Rattle.refusal.specs.declared.Refusal.the-variants.{NoSize, SizeAgain, OutsideRig, HeldAlready, NotFinite}
-use Rattle.extrinsics.specs.Limits.{maxCameras}
-use Rattle.extrinsics.specs.Masks.{inMask}
+use Rattle.chains.specs.Limits.{maxCameras}
+use Rattle.chains.specs.Masks.{inMask}
 use Rattle.extrinsics.specs.Grid.{Grid}
 use Rattle.extrinsics.specs.Outcome.{gridRefusal}
-use Rattle.extrinsics.specs.Direct.{sizeRefusal}
+use Rattle.inputs.specs.Inputs.{sizeRefusal}
 use Rattle.extrinsics.specs.Rig.{rigGrid}
 use Rattle.extrinsics.specs.declared.grid.Rig.{Rig}
-use Rattle.session.specs.Command.{Command, size, place, solve}
+use Rattle.command.specs.Command.{Command, size, place, solve}
 use Rattle.session.specs.declared.Session.{Session}
 
 -- "A fresh session is all zeros: no sizes, no poses."

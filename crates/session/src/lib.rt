@@ -1,19 +1,17 @@
 // The session: poses arrive as commands in a stream of bytes, one command a call, and Solve answers as the direct call would.
 ghost use mathlib.Core.Path.{_≡_};
-ghost use Rattle.extrinsics.specs.Direct.{checkedOf};
+ghost use Rattle.inputs.specs.Inputs.{checkedOf};
 ghost use Rattle.session.specs.Session.{fresh};
 ghost use Rattle.session.specs.Call.{state, callRefusal, Called};
 
-mod bytes;
 mod commands;
-mod parse;
 mod record;
 
 use crate::commands::obey_command;
 use crate::commands::refuse;
 use crate::record::is_possible;
-use extrinsics::direct::Checked;
-use extrinsics::tree::MAX_CAMERAS;
+use chains::MAX_CAMERAS;
+use inputs::Checked;
 use refusal::Refusal;
 
 // The most bytes of a stream.

@@ -1,14 +1,14 @@
 // The check of a session record that is handed in: whether accepted commands can leave it.
 ghost use Prim.Native.Nat.{_≤_, _<_};
 ghost use mathlib.Core.Path.{_≡_};
-ghost use Rattle.extrinsics.specs.Limits.{maxViews, maxCameras};
+ghost use Rattle.chains.specs.Limits.{maxViews, maxCameras};
 ghost use Rattle.session.specs.Session.{possible};
 ghost use Rattle.session.specs.Steps.{possibleSizes, possibleMasks, maskFits};
 use crate::Session;
-use extrinsics::direct::Checked;
-use extrinsics::direct::check_sizes;
-use extrinsics::grid::MAX_VIEWS;
-use extrinsics::tree::MAX_CAMERAS;
+use chains::MAX_CAMERAS;
+use inputs::Checked;
+use inputs::MAX_VIEWS;
+use inputs::check_sizes;
 
 // No sizes at all, or sizes that Size accepts.
 fn has_possible_sizes(session: Session) -> bool

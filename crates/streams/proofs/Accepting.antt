@@ -15,12 +15,12 @@ use Rattle.arithmetic.specs.declared.pose.Pose.{Pose}
 use Rattle.refusal.specs.Table.{refuseIf, firstOf}
 use Rattle.refusal.specs.declared.Refusal.{Refusal}
 use Rattle.refusal.specs.declared.Refusal.the-variants.{NoSize, SizeAgain, OutsideRig, HeldAlready, NotFinite}
-use Rattle.extrinsics.specs.Limits.{maxViews, maxCameras}
-use Rattle.extrinsics.specs.Masks.{inMask}
-use Rattle.extrinsics.specs.Direct.{sizeRefusal}
+use Rattle.chains.specs.Limits.{maxViews, maxCameras}
+use Rattle.chains.specs.Masks.{inMask}
+use Rattle.inputs.specs.Inputs.{sizeRefusal}
 use Rattle.extrinsics.specs.Outcome.{gridRefusal}
-use Rattle.extrinsics.proofs.Answering.{refuseIf-none, AllNone, firstOf-none-all, or-false, Sizes, sizeRefusal-none}
-use Rattle.session.specs.Command.{size, place, solve}
+use Rattle.inputs.proofs.Answering.{refuseIf-none, AllNone, firstOf-none-all, or-false, Sizes, sizeRefusal-none, sizeRefusal-sizes}
+use Rattle.command.specs.Command.{size, place, solve}
 use Rattle.session.specs.Session.{hasSize, sessionGrid, commandRefusal, namedCell}
 use Rattle.session.specs.declared.Session.{Session}
 
@@ -34,17 +34,6 @@ pub firstOf-all-none : (checks : List (Option Refusal)) → AllNone checks → f
 unfolding firstOf
 firstOf-all-none [] h = refl
 firstOf-all-none (check ∷ later) (e, h) = rw e (firstOf-all-none later h)
-
-pub sizeRefusal-sizes : (views cameras reference : ℕ) → Sizes views cameras reference → sizeRefusal views cameras reference ≡ none
-unfolding sizeRefusal
-sizeRefusal-sizes views cameras reference s =
-    rw (
-      ne-eqb views 0 (omega (arith, s .some-views)),
-      le-ltb maxViews views (s .views-fit),
-      ne-eqb cameras 0 (omega (arith, s .some-cameras)),
-      le-ltb maxCameras cameras (s .cameras-fit),
-      lt-leb cameras reference (s .reference-inside),
-    )
 
 -- ---- commands
 

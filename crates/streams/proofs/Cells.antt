@@ -10,7 +10,7 @@ use lib.Seq.{getD-take, getD-drop, getD-append-add, length-take-le}
 use lib.Ieee.{Float, nan}
 use Rattle.arithmetic.specs.Pose.{poseAt, flat}
 use Rattle.arithmetic.specs.declared.pose.Pose.{Pose}
-use Rattle.extrinsics.specs.Limits.{maxCameras}
+use Rattle.chains.specs.Limits.{maxCameras}
 use Rattle.session.specs.Session.{cellStart}
 
 -- Seven floats of a list that are those of a pose.

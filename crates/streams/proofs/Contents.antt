@@ -7,9 +7,9 @@ use mathlib.Core.Path.{_≡_, refl, sym, ap, subst, _∙_}
 use mathlib.Core.List.{List, [], _∷_, _++_}
 use lib.ListN.{length}
 use borrow.Author.Tests.{eq-eqb, ne-eqb}
-use Rattle.session.specs.Command.{Command, Parsed, complete, broken, unknown, parse}
+use Rattle.command.specs.Command.{Command, Parsed, complete, broken, unknown, parse}
+use Rattle.session.proofs.Advancing.{parse-complete}
 use Rattle.streams.specs.Stream.{clean, unknownByte, brokenAt, Contents, contents, contentsFrom, restOf, contentsOf, Reads, nothing, one-more, EndsAt}
-use Rattle.streams.proofs.Parsing.{parse-complete}
 
 -- ---- what a stream holds, from an offset on
 

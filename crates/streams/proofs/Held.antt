@@ -18,10 +18,10 @@ use borrow.Author.Tests.{eqb-true, eq-eqb, ne-eqb}
 use Rattle.arithmetic.specs.Pose.{poseAt}
 use Rattle.arithmetic.specs.declared.pose.Pose.{Pose}
 use Rattle.refusal.specs.declared.Refusal.{Refusal}
-use Rattle.extrinsics.specs.Limits.{maxViews, maxCameras}
-use Rattle.extrinsics.specs.Masks.{inMask}
+use Rattle.chains.specs.Limits.{maxViews, maxCameras}
+use Rattle.chains.specs.Masks.{inMask}
 use Rattle.extrinsics.proofs.MaskUnion.{inMask-zero}
-use Rattle.session.specs.Command.{Command, size, place, solve}
+use Rattle.command.specs.Command.{Command, size, place, solve}
 use Rattle.session.specs.Session.{fresh, bufferLength, cellStart, commandRefusal, sessionAfter, bufferAfter}
 use Rattle.session.specs.Call.{maxStream, firstLength, secondLength, State, state, stateAfter}
 use Rattle.streams.specs.Stream.{contentsOf, answerTo, stateAfterAll, lastState, calls, Usable}
@@ -357,7 +357,7 @@ module _ (buffer first : List Float) (second : List ℕ) (buffer-fits : length b
   abbrev start : State
   start = state fresh buffer first second
 
-  usable-start : Usable start
+  pub usable-start : Usable start
   usable-start =
       record { buffer-fits = buffer-fits; first-fits = first-fits; second-fits = second-fits; record-possible = possible-of-sound fresh sound-fresh }
 

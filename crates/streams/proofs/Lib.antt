@@ -13,3 +13,4 @@ pub mod SolveDirect
 pub mod RustGrids
 pub mod SolveDemands
 pub mod SolveInStreams
+pub mod FiniteHeld

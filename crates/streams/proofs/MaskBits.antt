@@ -11,7 +11,7 @@ use lib.Arith.{digits-lt}
 use lib.Dec.{eqb}
 use lib.Pow.{pow-pos, pow-add, shr-shr, shr-lt, split, mod-pow-add}
 use borrow.Author.Tests.{eqb-true, eqb-false, eq-eqb, ne-eqb}
-use Rattle.extrinsics.specs.Masks.{inMask}
+use Rattle.chains.specs.Masks.{inMask}
 
 clear-bit : (m v : ℕ) → inMask m v ≡ false → m / 2 ^ v % 2 ≡ 0
 unfolding inMask

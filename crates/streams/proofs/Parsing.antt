@@ -1,49 +1,20 @@
--- Laws of `parse`: a command stands whole inside the stream (`parse-complete`), what is parsed goes by the bytes from the offset on
--- (`parse-same`, `parse-drop`), and a command by its own bytes alone (`parse-own`). Assumes nothing.
+-- Laws of `parse`: what is parsed goes by the bytes from the offset on (`parse-same`, `parse-drop`), and a command by its own bytes alone
+-- (`parse-own`). Assumes nothing.
 use Prim.Native.Nat.{ℕ, suc, _+_, _*_, _≤_, _<_}
 use native.Mathlib.Decide.{decLe}
 use native.Mathlib.Nat.{add-assoc}
 use native.Mathlib.Omega.{arith, by-contra}
-use mathlib.Core.Path.{_≡_, refl, sym, ap, ap₂, fun-ext, subst, _∙_}
+use mathlib.Core.Path.{_≡_, refl, sym, ap, ap₂, fun-ext, _∙_}
 use mathlib.Core.Bool.{Bool, true, false, cond}
 use mathlib.Core.List.{List}
 use lib.ListN.{length, getD, drop, length-drop}
 use lib.Seq.{getD-drop}
 use lib.Dec.{eqb, leb}
 use lib.Ieee.{Float, binary64, ofBits}
-use borrow.Author.Tests.{leb-true, le-leb, lt-leb}
+use borrow.Author.Tests.{le-leb, lt-leb}
 use Rattle.arithmetic.specs.Pose.{vec3, quaternion, pose}
 use Rattle.arithmetic.specs.declared.pose.Pose.{Pose}
-use Rattle.session.specs.Command.{Command, size, place, solve, sizeByte, poseByte, solveByte, sizeWidth, poseWidth, solveWidth, wordAt, doubleAt, offeredPose, Parsed, complete, broken, unknown, wholeIf, parse}
-
-abbrev Whole : List ℕ → ℕ → Parsed → Type 0
-Whole stream at (complete command width) = (0 < width) × (at + width ≤ length stream)
-Whole stream at broken = Unit {0}
-Whole stream at (unknown byte) = Unit {0}
-
-cond-either {ℓ} : {A : Type ℓ} (P : A → Type 0) (b : Bool) (x y : A) → P x → P y → P (cond b x y)
-cond-either P true x y p q = p
-cond-either P false x y p q = q
-
-module _ (stream : List ℕ) (at : ℕ) where
-  wholeIf-whole : (width : ℕ) (command : Command) → 0 < width → Whole stream at (wholeIf stream at width command)
-  unfolding wholeIf
-  wholeIf-whole width command h = go (leb (at + width) (length stream)) refl
-    where
-      go : (b : Bool) → leb (at + width) (length stream) ≡ b → Whole stream at (cond b (complete command width) broken)
-      go true e = (h, leb-true _ _ e)
-      go false e = tt
-
-  parse-whole : Whole stream at (parse stream at)
-  unfolding parse
-  parse-whole =
-      cond-either (Whole stream at) (eqb (getD stream at 0) sizeByte) _ _ (wholeIf-whole sizeWidth _ (omega arith))
-      (cond-either (Whole stream at) (eqb (getD stream at 0) poseByte) _ _ (wholeIf-whole poseWidth _ (omega arith))
-      (cond-either (Whole stream at) (eqb (getD stream at 0) solveByte) _ _ (wholeIf-whole solveWidth _ (omega arith)) tt))
-
-  -- A command takes a byte or more, and ends where the stream does or before.
-  pub parse-complete : (command : Command) (width : ℕ) → parse stream at ≡ complete command width → (0 < width) × (at + width ≤ length stream)
-  parse-complete command width e = subst (Whole stream at) e parse-whole
+use Rattle.command.specs.Command.{Command, size, place, solve, sizeByte, poseByte, solveByte, sizeWidth, poseWidth, solveWidth, wordAt, doubleAt, offeredPose, Parsed, complete, broken, unknown, parse}
 
 -- ---- what is parsed goes by the bytes from the offset on, and by how many there are
 

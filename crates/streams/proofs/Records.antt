@@ -18,14 +18,14 @@ use lib.Pow.{pow-pos}
 use borrow.Author.Tests.{lt-ltb, le-ltb}
 use Rattle.arithmetic.specs.Pose.{identityPose, finitePose}
 use Rattle.refusal.specs.declared.Refusal.{Refusal}
-use Rattle.extrinsics.specs.Limits.{maxCameras}
-use Rattle.extrinsics.specs.Masks.{inMask}
-use Rattle.extrinsics.specs.Direct.{sizeRefusal}
-use Rattle.extrinsics.proofs.Answering.{Sizes, sizeRefusal-none}
-use Rattle.session.specs.Command.{Command, size, place, solve}
+use Rattle.chains.specs.Limits.{maxCameras}
+use Rattle.chains.specs.Masks.{inMask}
+use Rattle.inputs.specs.Inputs.{sizeRefusal}
+use Rattle.inputs.proofs.Answering.{Sizes, sizeRefusal-none, sizeRefusal-sizes}
+use Rattle.command.specs.Command.{Command, size, place, solve}
 use Rattle.session.specs.Session.{fresh, commandRefusal, sessionAfter, Left, left-fresh, left-after, allBelow, isNone, possible}
 use Rattle.session.specs.declared.Session.{Session}
-use Rattle.streams.proofs.Accepting.{sizeRefusal-sizes, size-accepted, accepts-size, place-accepted, accepts-place}
+use Rattle.streams.proofs.Accepting.{size-accepted, accepts-size, place-accepted, accepts-place}
 use Rattle.streams.proofs.MaskBits.{plus-below, inMask-mod, mod-next-set, mod-next-clear}
 
 -- ---- what the check asks, as plain facts

@@ -16,23 +16,24 @@ use borrow.Author.Tests.{not-false}
 use Rattle.arithmetic.specs.Pose.{poseAt, finitePose}
 use Rattle.arithmetic.specs.declared.pose.Pose.{Pose}
 use Rattle.refusal.specs.declared.Refusal.the-variants.{NotFinite}
-use Rattle.extrinsics.specs.Masks.{inMask}
+use Rattle.chains.specs.Masks.{inMask}
 use Rattle.extrinsics.specs.Outcome.{isNotFinite, lowestNotFinite, notFinite}
 use Rattle.extrinsics.specs.Direct.{markedCell}
 use Rattle.extrinsics.specs.Rig.{maskedCell, rigCell, rigGrid}
 use Rattle.extrinsics.specs.declared.grid.Cell.the-variants.{Empty, Held}
-use Rattle.extrinsics.proofs.Answering.{refuseAt-nothing, Sizes}
-use Rattle.extrinsics.proofs.Lowest.{lowest-none-fails}
-use Rattle.extrinsics.proofs.Tabulated.{length-tabulate, getD-tabulate, getD-tabulate-past}
+use Rattle.inputs.proofs.Answering.{refuseAt-nothing, Sizes}
+use Rattle.inputs.proofs.Lowest.{lowest-none-fails}
+use Rattle.chains.proofs.Tabulated.{length-tabulate, getD-tabulate, getD-tabulate-past}
 use Rattle.extrinsics.proofs.ViewCells.{row-inside, row-quotient, row-remainder, cellOf-rigCell}
 use Rattle.demands.specs.Rust.{numViews, numCameras}
-use Rattle.demands.specs.Encoding.{cellFor, poseOf, Encodes, WithinLimits, RoomEnough}
+use Rattle.demands.specs.Encoding.{markFor, poseOf, Encodes, WithinLimits, RoomEnough}
+use Rattle.demands.proofs.SameGrid.{cellFor}
 use Rattle.session.specs.Session.{cellStart, rigOf, sessionGrid, possible}
 use Rattle.session.specs.Call.{firstLength, secondLength}
 use Rattle.streams.specs.DirectInputs.{countsOf, marksOf, floatsOf}
 use Rattle.streams.specs.RustGrids.{rustCellOf, rustViewOf, rustGridOf}
 use Rattle.session.specs.declared.Session.{Session}
-use Rattle.streams.proofs.SolveDirect.{length-marksOf, mark-small, rigCell-marked, length-floatsOf, length-countsOf, each-countsOf}
+use Rattle.streams.proofs.SolveDirect.{length-marksOf, mark-at, poseAt-floatsOf, length-floatsOf, length-countsOf, each-countsOf}
 use Rattle.streams.proofs.Records.{has-sizes, sound-of-possible}
 
 -- ---- one cell
@@ -40,6 +41,14 @@ use Rattle.streams.proofs.Records.{has-sizes, sound-of-possible}
 cellFor-cond : (b : Bool) (p : Pose) → cellFor (cond b (some p) none) ≡ cond b (Held p) Empty
 cellFor-cond true p = refl
 cellFor-cond false p = refl
+
+markFor-cond : (b : Bool) (p : Pose) → markFor (cond b (some p) none) ≡ cond b 1 0
+markFor-cond true p = refl
+markFor-cond false p = refl
+
+held-pose : (b : Bool) (p q : Pose) → cond b (some p) none ≡ some q → p ≡ q
+held-pose true p q e = cc
+held-pose false p q e = let z : _≡_ {A = ℕ} 0 1 = cc in absurd (omega arith)
 
 finite-cond : (b : Bool) (p q : Pose) → isNotFinite (cond b (Held p) Empty) ≡ false → cond b (some p) none ≡ some q → T (finitePose q)
 unfolding isNotFinite
@@ -100,12 +109,20 @@ module _ (s : Session) (buffer : List Float) where
         let inside : v < s .views = omega (arith, length-countsOf s buffer some-view) in
         each-countsOf s buffer some-view v inside ∙ sym (length-view v inside) ∙ sym (List·getD-map length grid v []))
 
-    same-cell : (v c : ℕ) → v < s .views → c < s .cameras → markedCell (marksOf s) (floatsOf s buffer) (v * s .cameras + c) ≡ cellFor (poseOf grid v c)
-    same-cell v c h k =
-        sym (rigCell-marked s buffer (v * s .cameras + c) (row-inside v (s .views) (s .cameras) c h k))
-        ∙ ap₂ (rigCell (rigOf s) buffer) (row-quotient v (s .cameras) c k) (row-remainder v (s .cameras) c k)
-        ∙ rigCell-rust v c
-        ∙ ap cellFor (sym (poseOf-inside v c h k))
+    cell-mark : (v c : ℕ) → v < s .views → c < s .cameras → getD (marksOf s) (v * s .cameras + c) 0 ≡ markFor (poseOf grid v c)
+    unfolding rustCellOf
+    cell-mark v c h k =
+        mark-at s (v * s .cameras + c) (row-inside v (s .views) (s .cameras) c h k)
+        ∙ ap₂ (λ (a b : ℕ). cond (inMask (getD (s .masks) b 0) a) 1 0) (row-quotient v (s .cameras) c k) (row-remainder v (s .cameras) c k)
+        ∙ sym (markFor-cond (inMask (getD (s .masks) c 0) v) (poseAt buffer (cellStart v c)))
+        ∙ ap markFor (sym (poseOf-inside v c h k))
+
+    cell-pose : (v c : ℕ) → v < s .views → c < s .cameras → (p : Pose) → poseOf grid v c ≡ some p → poseAt (floatsOf s buffer) (7 * (v * s .cameras + c)) ≡ p
+    unfolding rustCellOf
+    cell-pose v c h k p e =
+        poseAt-floatsOf s buffer (v * s .cameras + c) (row-inside v (s .views) (s .cameras) c h k)
+        ∙ ap₂ (λ (a b : ℕ). poseAt buffer (cellStart a b)) (row-quotient v (s .cameras) c k) (row-remainder v (s .cameras) c k)
+        ∙ held-pose (inMask (getD (s .masks) c 0) v) (poseAt buffer (cellStart v c)) p (sym (poseOf-inside v c h k) ∙ e)
 
     -- "the grid that masks and buffer hold" is the one that the counts, marks and floats of Solve's direct call hold.
     pub session-encodes : Encodes (rustGridOf s buffer) (countsOf s) (marksOf s) (floatsOf s buffer)
@@ -116,10 +133,12 @@ module _ (s : Session) (buffer : List Float) where
               record {
                 mark-each = length-marksOf s ∙ sym (ap₂ (λ (v c : ℕ). v * c) views-rustGridOf cameras-rustGridOf);
                 seven-each = length-floatsOf s buffer ∙ sym (ap₂ (λ (v c : ℕ). 7 * (v * c)) views-rustGridOf cameras-rustGridOf);
-                mark-small = λ i h. mark-small s i (omega (arith, length-marksOf s));
-                same-cell = λ v c h k.
-                    ap (λ (n : ℕ). markedCell (marksOf s) (floatsOf s buffer) (v * n + c)) cameras-rustGridOf
-                    ∙ same-cell v c (omega (arith, views-rustGridOf)) (omega (arith, cameras-rustGridOf));
+                cell-mark = λ v c h k.
+                    ap (λ (n : ℕ). getD (marksOf s) (v * n + c) 0) cameras-rustGridOf
+                    ∙ cell-mark v c (omega (arith, views-rustGridOf)) (omega (arith, cameras-rustGridOf));
+                cell-pose = λ v c h k p e.
+                    ap (λ (n : ℕ). poseAt (floatsOf s buffer) (7 * (v * n + c))) cameras-rustGridOf
+                    ∙ cell-pose v c (omega (arith, views-rustGridOf)) (omega (arith, cameras-rustGridOf)) p e;
               };
         }
 

@@ -12,7 +12,7 @@ use Rattle.demands.specs.Encoding.{CallAgrees}
 use Rattle.demands.specs.Demand3.{PassesBefore8, Demand3}
 use Rattle.demands.proofs.CallAgrees.{call-agrees-with-rust}
 use Rattle.demands.proofs.Demand3.{demand-3}
-use Rattle.session.specs.Command.{solve}
+use Rattle.command.specs.Command.{solve}
 use Rattle.session.specs.Session.{sessionGrid}
 use Rattle.session.specs.Call.{State}
 use Rattle.streams.specs.Stream.{Usable, answerTo}

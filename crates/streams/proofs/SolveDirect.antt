@@ -15,30 +15,32 @@ use lib.Ieee.{Float, nan}
 use borrow.Author.Tests.{eq-eqb, ne-eqb, le-ltb}
 use Rattle.arithmetic.specs.Pose.{flat, poseAt}
 use Rattle.arithmetic.specs.declared.pose.Pose.{Pose}
-use Rattle.extrinsics.specs.Masks.{inMask}
-use Rattle.extrinsics.specs.Layers.{tabulate}
+use Rattle.chains.specs.Masks.{inMask}
+use Rattle.chains.specs.Layers.{tabulate}
 use Rattle.extrinsics.specs.Grid.{Grid}
 use Rattle.extrinsics.specs.Estimate.{gather, transforms, chains}
-use Rattle.extrinsics.specs.Outcome.{lowest, gridRefusal, outcomeOf, answered}
+use Rattle.inputs.specs.Finding.{lowest}
+use Rattle.extrinsics.specs.Outcome.{gridRefusal, outcomeOf, answered}
 use Rattle.extrinsics.specs.Rig.{maskedCell, rigCell, rigGrid}
 use Rattle.refusal.specs.Table.{refuseIf, firstOf}
 use Rattle.refusal.specs.declared.Refusal.{Refusal}
 use Rattle.refusal.specs.declared.Refusal.the-variants.{CountDiffers, BadMark, NoSize}
-use Rattle.extrinsics.specs.Direct.{sizeRefusal, cellCount, lowestOtherCount, countRefusal, lengthRefusal, lowestBadMark, markRefusal, inputRefusal, markedCell, directGrid, directRefusal}
+use Rattle.inputs.specs.Inputs.{sizeRefusal, cellCount, lowestOtherCount, countRefusal, lengthRefusal, lowestBadMark, markRefusal, inputRefusal}
+use Rattle.extrinsics.specs.Direct.{markedCell, directGrid, directRefusal}
 use Rattle.extrinsics.specs.declared.grid.Cell.{Cell}
 use Rattle.extrinsics.specs.declared.grid.Cell.the-variants.{Empty, Held}
-use Rattle.extrinsics.proofs.Answering.{refuseAt-none, firstOf-none, Sizes}
-use Rattle.extrinsics.proofs.Lowest.{lowest-passes}
+use Rattle.inputs.proofs.Answering.{refuseAt-none, firstOf-none, Sizes, sizeRefusal-sizes}
+use Rattle.inputs.proofs.Lowest.{lowest-nothing}
 use Rattle.extrinsics.proofs.Filling.{length-gather}
-use Rattle.extrinsics.proofs.Tabulated.{length-tabulate, getD-tabulate, tabulate-agree}
-use Rattle.session.specs.Command.{Command, solve}
+use Rattle.chains.proofs.Tabulated.{length-tabulate, getD-tabulate, tabulate-agree}
+use Rattle.command.specs.Command.{Command, solve}
 use Rattle.session.specs.Session.{cellStart, hasSize, rigOf, sessionGrid, commandRefusal, sessionAfter, bufferAfter, possible}
 use Rattle.session.specs.Call.{firstLength, secondLength, State, replyTo, firstAfter, secondAfter, stateAfter}
 use Rattle.streams.specs.Stream.{answer, answerTo, stateAfterAll, Usable}
 use Rattle.session.specs.declared.Reply.the-variants.{Refused}
 use Rattle.streams.specs.DirectInputs.{countsOf, marksOf, floatsOf, replyOf, AsDirect}
 use Rattle.session.specs.declared.Session.{Session}
-use Rattle.streams.proofs.Accepting.{refuseIf-false, firstOf-all-none, sizeRefusal-sizes, solve-checks}
+use Rattle.streams.proofs.Accepting.{refuseIf-false, firstOf-all-none, solve-checks}
 use Rattle.streams.proofs.Cells.{poseAt-flat}
 use Rattle.streams.proofs.Records.{has-sizes, sound-of-possible}
 use Rattle.streams.proofs.Usable.{answerTo-accepted, answerTo-refused, usable-after-all}
@@ -58,14 +60,6 @@ getD-gather f each (suc n) i k h l = go (decLt i n) (getD-gather f each n i k)
         ∙ getD-append-add (gather n f) (f n) k nan
         ∙ ap (λ (j : ℕ). getD (f j) k nan) (omega arith)
 
--- Where nothing passes, nothing is found.
-lowest-nothing : (test : ℕ → Bool) (n : ℕ) → ((i : ℕ) → i < n → test i ≡ false) → lowest test n ≡ none
-lowest-nothing test n h = go (lowest test n) refl
-  where
-    go : (o : Option ℕ) → lowest test n ≡ o → o ≡ none
-    go none e = refl
-    go (some i) e = let (l, t) = lowest-passes test n i e in absurd (false≢true (sym (h i l) ∙ t))
-
 -- ---- the grid
 
 held-or-empty : (b : Bool) (p : Pose) → cond b (Held p) Empty ≡ cond (eqb (cond b 1 0) 0) Empty (Held p)
@@ -77,7 +71,7 @@ module _ (s : Session) where
   unfolding marksOf
   length-marksOf = length-tabulate (s .views * s .cameras) (λ i. cond (inMask (getD (s .masks) (i % s .cameras) 0) (i / s .cameras)) 1 0)
 
-  mark-at : (i : ℕ) → i < s .views * s .cameras → getD (marksOf s) i 0 ≡ cond (inMask (getD (s .masks) (i % s .cameras) 0) (i / s .cameras)) 1 0
+  pub mark-at : (i : ℕ) → i < s .views * s .cameras → getD (marksOf s) i 0 ≡ cond (inMask (getD (s .masks) (i % s .cameras) 0) (i / s .cameras)) 1 0
   unfolding marksOf
   mark-at i h = getD-tabulate (s .views * s .cameras) (λ j. cond (inMask (getD (s .masks) (j % s .cameras) 0) (j / s .cameras)) 1 0) 0 i h
 
@@ -92,7 +86,7 @@ module _ (s : Session) (buffer : List Float) where
   abbrev cells : ℕ
   cells = s .views * s .cameras
 
-  poseAt-floatsOf : (i : ℕ) → i < cells → poseAt (floatsOf s buffer) (7 * i) ≡ poseAt buffer (cellStart (i / s .cameras) (i % s .cameras))
+  pub poseAt-floatsOf : (i : ℕ) → i < cells → poseAt (floatsOf s buffer) (7 * i) ≡ poseAt buffer (cellStart (i / s .cameras) (i % s .cameras))
   unfolding floatsOf
   poseAt-floatsOf i h =
       poseAt-flat (floatsOf s buffer) (7 * i) (poseAt buffer (cellStart (i / s .cameras) (i % s .cameras)))

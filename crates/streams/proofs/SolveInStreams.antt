@@ -7,7 +7,7 @@ use mathlib.Core.List.{List, [], _∷_, _++_, append-assoc}
 use lib.ListN.{length, getD}
 use lib.Seq.{getD-at}
 use Rattle.extrinsics.specs.Outcome.{notFinite}
-use Rattle.session.specs.Command.{Command, solve}
+use Rattle.command.specs.Command.{Command, solve}
 use Rattle.session.specs.Session.{sessionGrid}
 use Rattle.session.specs.Call.{maxStream, State}
 use Rattle.streams.specs.Stream.{contentsOf, Answer, answer, answerTo, answers, stateAfterAll, endingReply, answersOf, calls, Usable}

@@ -15,20 +15,20 @@ use borrow.Author.Tests.{ltb-false, lt-ltb, le-ltb, eq-eqb, ne-eqb}
 use Rattle.refusal.specs.Table.{refuseIf, refuseAt, firstOf}
 use Rattle.refusal.specs.declared.Refusal.{Refusal}
 use Rattle.refusal.specs.declared.Refusal.the-variants.{InsufficientData, TooMany, InvalidReference, WrongLength, NotFinite, Unreached, EmptyView, Truncated, TooLong}
-use Rattle.extrinsics.specs.Limits.{maxViews, maxCameras}
-use Rattle.extrinsics.specs.Direct.{sizeRefusal}
+use Rattle.chains.specs.Limits.{maxViews, maxCameras}
+use Rattle.inputs.specs.Inputs.{sizeRefusal}
 use Rattle.extrinsics.specs.Grid.{Grid}
 use Rattle.extrinsics.specs.Outcome.{lowestNotFinite, notFinite, unreachedSet, unreached, lowestEmptyView, emptyView, gridRefusal}
-use Rattle.extrinsics.proofs.Answering.{refuseIf-none, firstOf-none-all}
-use Rattle.session.specs.Command.{Command, size, place, solve, Parsed, complete, broken, unknown, parse}
+use Rattle.inputs.proofs.Answering.{refuseIf-none, firstOf-none-all}
+use Rattle.command.specs.Command.{Command, size, place, solve, Parsed, complete, broken, unknown, parse}
 use Rattle.session.specs.Session.{sessionGrid, commandRefusal}
 use Rattle.session.specs.Call.{maxStream, State, Result, result, callRefusal, stopped, replyTo, obeyed, read, call}
 use Rattle.streams.specs.Stream.{Ending, clean, unknownByte, brokenAt, Contents, contents, contentsFrom, contentsOf, Answer, answer, answerTo, answers, stateAfterAll, lastState, unusable, streamRefusal, endingReply, answersOf, meaning, endsStream, callsFrom, calls, Usable}
 use Rattle.session.specs.declared.Session.{Session}
 use Rattle.session.specs.declared.Reply.the-variants.{End, Refused}
+use Rattle.session.proofs.Advancing.{parse-complete}
 use Rattle.streams.proofs.Accepting.{firstOf-all-none, refuseIf-false, size-checks, placeChecks, place-checks, solve-checks}
 use Rattle.streams.proofs.Contents.{contentsFrom-none, contentsFrom-end, contentsFrom-complete, contentsFrom-broken, contentsFrom-unknown}
-use Rattle.streams.proofs.Parsing.{parse-complete}
 use Rattle.streams.proofs.Usable.{usable-of-check, check-of-usable, usable-answer, answerTo-accepted, answerTo-refused}
 
 -- ---- a command's refusal does not end the stream
@@ -173,7 +173,7 @@ usable-of-passes t stream e =
     (ltb-false _ _ (refuseIf-none _ _ long), usable-of-check t (refuseIf-none _ _ wrong))
 
 -- A command is obeyed or refused as its answer says.
-obeyed-answerTo : (t : State) (command : Command) (next : ℕ) → obeyed t command next ≡ result (answerTo t command .reply) (answerTo t command .after) next
+pub obeyed-answerTo : (t : State) (command : Command) (next : ℕ) → obeyed t command next ≡ result (answerTo t command .reply) (answerTo t command .after) next
 unfolding obeyed
 obeyed-answerTo t command next = go (commandRefusal (t .session) (t .buffer) command) refl
   where
@@ -185,11 +185,11 @@ obeyed-answerTo t command next = go (commandRefusal (t .session) (t .buffer) com
 -- ---- calls in a row
 
 module _ (most : ℕ) (t : State) (stream : List ℕ) (at : ℕ) (r : Result) (called : call t stream at ≡ r) where
-  callsFrom-ends : endsStream (r .reply) ≡ true → callsFrom (suc most) t stream at ≡ answer (r .reply) (r .after) ∷ []
+  pub callsFrom-ends : endsStream (r .reply) ≡ true → callsFrom (suc most) t stream at ≡ answer (r .reply) (r .after) ∷ []
   unfolding callsFrom
   callsFrom-ends e = cc
 
-  callsFrom-goes-on : endsStream (r .reply) ≡ false → callsFrom (suc most) t stream at ≡ answer (r .reply) (r .after) ∷ callsFrom most (r .after) stream (r .next)
+  pub callsFrom-goes-on : endsStream (r .reply) ≡ false → callsFrom (suc most) t stream at ≡ answer (r .reply) (r .after) ∷ callsFrom most (r .after) stream (r .next)
   unfolding callsFrom
   callsFrom-goes-on e = cc
 
@@ -271,7 +271,7 @@ module _ (stream : List ℕ) (short : length stream ≤ maxStream) where
 
 -- ---- 13 and 5
 
-meaning-refused : (t : State) (stream : List ℕ) (r : Refusal) → streamRefusal t stream ≡ some r → meaning t stream ≡ answer (Refused r) t ∷ []
+pub meaning-refused : (t : State) (stream : List ℕ) (r : Refusal) → streamRefusal t stream ≡ some r → meaning t stream ≡ answer (Refused r) t ∷ []
 unfolding meaning
 meaning-refused t stream r e = rw (e, meaning)
 

@@ -10,13 +10,14 @@ use mathlib.Core.List.{List, [], _∷_, _++_, append-assoc}
 use lib.ListN.{length, take, drop, getD, length-append, length-drop, List·getD-append}
 use lib.Seq.{getD-take, length-take-le, drop-at}
 use Rattle.refusal.specs.declared.Refusal.{Refusal}
-use Rattle.session.specs.Command.{Command, Parsed, complete, broken, unknown, parse}
+use Rattle.command.specs.Command.{Command, Parsed, complete, broken, unknown, parse}
 use Rattle.session.specs.Session.{commandRefusal}
 use Rattle.session.specs.Call.{State, maxStream}
 use Rattle.streams.specs.Stream.{brokenAt, Contents, contents, contentsFrom, restOf, contentsOf, Reads, nothing, one-more, struck, earlier, Answer, answer, answerTo, answers, stateAfterAll, answersOf, endingReply, meaning, Usable}
 use Rattle.session.specs.declared.Reply.the-variants.{Refused}
+use Rattle.session.proofs.Advancing.{parse-complete}
 use Rattle.streams.proofs.Contents.{contentsFrom-none, contentsFrom-end, contentsFrom-complete, contentsFrom-broken, contentsFrom-unknown, contentsFrom-enough, restOf-command, restOf-reads, reads-le}
-use Rattle.streams.proofs.Parsing.{parse-complete, parse-drop, parse-own}
+use Rattle.streams.proofs.Parsing.{parse-drop, parse-own}
 use Rattle.streams.proofs.Streams.{passes-of-usable, answersOf-command, meaning-passes}
 use Rattle.streams.proofs.Usable.{answerTo-refused}
 

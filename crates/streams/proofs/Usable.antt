@@ -13,14 +13,14 @@ use lib.Ieee.{Float}
 use borrow.Author.Tests.{eqb-true, ltb-false, not-false, eq-eqb, le-ltb}
 use Rattle.arithmetic.specs.Pose.{flat}
 use Rattle.refusal.specs.declared.Refusal.{Refusal}
-use Rattle.extrinsics.specs.Limits.{maxViews, maxCameras}
+use Rattle.chains.specs.Limits.{maxViews, maxCameras}
 use Rattle.extrinsics.specs.Grid.{Grid}
 use Rattle.extrinsics.specs.Estimate.{transforms, chains, rigSe3Cam, rigSe3Target}
 use Rattle.extrinsics.specs.Outcome.{answered}
 use Rattle.extrinsics.specs.Rig.{rigGrid}
-use Rattle.extrinsics.proofs.Answering.{or-false}
+use Rattle.inputs.proofs.Answering.{or-false}
 use Rattle.extrinsics.proofs.Filling.{length-gather}
-use Rattle.session.specs.Command.{Command, size, place, solve}
+use Rattle.command.specs.Command.{Command, size, place, solve}
 use Rattle.session.specs.Session.{bufferLength, cellStart, sessionGrid, commandRefusal, bufferAfter, possible}
 use Rattle.session.specs.Call.{firstLength, secondLength, State, replyTo, firstAfter, secondAfter, stateAfter}
 use Rattle.streams.specs.Stream.{answer, answerTo, stateAfterAll, unusable, Usable}

@@ -7,8 +7,8 @@ use mathlib.Core.List.{List}
 use lib.ListN.{getD, replicate}
 use lib.Ieee.{Float}
 use Rattle.arithmetic.specs.Pose.{flat, poseAt}
-use Rattle.extrinsics.specs.Masks.{inMask}
-use Rattle.extrinsics.specs.Layers.{tabulate}
+use Rattle.chains.specs.Masks.{inMask}
+use Rattle.chains.specs.Layers.{tabulate}
 use Rattle.extrinsics.specs.Estimate.{gather}
 use Rattle.extrinsics.specs.Direct.{Direct}
 use Rattle.extrinsics.specs.declared.Outcome.{Outcome}

@@ -11,9 +11,9 @@ use lib.Dec.{T, eqb}
 use lib.Ieee.{Float, nan}
 use Rattle.arithmetic.specs.Pose.{poseAt}
 use Rattle.arithmetic.specs.declared.pose.Pose.{Pose}
-use Rattle.extrinsics.specs.Limits.{maxCameras}
-use Rattle.extrinsics.specs.Masks.{inMask}
-use Rattle.session.specs.Command.{Command, size, place, solve}
+use Rattle.chains.specs.Limits.{maxCameras}
+use Rattle.chains.specs.Masks.{inMask}
+use Rattle.command.specs.Command.{Command, size, place, solve}
 use Rattle.session.specs.Session.{cellStart, commandRefusal}
 use Rattle.session.specs.Call.{State, stateAfter}
 

@@ -8,8 +8,8 @@ use lib.ListN.{getD}
 use lib.Ieee.{Float}
 use Rattle.arithmetic.specs.Pose.{poseAt}
 use Rattle.arithmetic.specs.declared.pose.Pose.{Pose}
-use Rattle.extrinsics.specs.Masks.{inMask}
-use Rattle.extrinsics.specs.Layers.{tabulate}
+use Rattle.chains.specs.Masks.{inMask}
+use Rattle.chains.specs.Layers.{tabulate}
 use Rattle.session.specs.Session.{cellStart}
 use Rattle.session.specs.declared.Session.{Session}
 

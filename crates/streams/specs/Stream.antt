@@ -11,7 +11,7 @@ use lib.Dec.{T, eqb, ltb}
 use Rattle.refusal.specs.Table.{numberOf, refuseIf, firstOf}
 use Rattle.refusal.specs.declared.Refusal.{Refusal}
 use Rattle.refusal.specs.declared.Refusal.the-variants.{WrongLength, UnknownCommand, Truncated, TooLong}
-use Rattle.session.specs.Command.{Command, complete, broken, unknown, parse}
+use Rattle.command.specs.Command.{Command, complete, broken, unknown, parse}
 use Rattle.session.specs.Session.{bufferLength, commandRefusal, possible}
 use Rattle.session.specs.Call.{maxStream, firstLength, secondLength, State, replyTo, stateAfter, call}
 use Rattle.session.specs.declared.Reply.{Reply}

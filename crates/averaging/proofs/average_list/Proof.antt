@@ -6,7 +6,7 @@ use Rattle.averaging.specs.Entry.{lowestNotFinite}
 use Rattle.averaging.specs.declared.Averaged.the-variants.{Mean}
 use Rattle.averaging.proofs.Listing.{length-posesOf}
 use Rattle.averaging.proofs.Outcomes.{averagedOf-empty, averagedOf-too-many, averagedOf-not-finite, averagedOf-mean}
-use Rattle.extrinsics.proofs.Answering.{foundOf-at, foundOf-nothing}
+use Rattle.inputs.proofs.Answering.{foundOf-at, foundOf-nothing}
 use borrow.Author.Needs.{needs}
 use Rattle.averaging.proofs.average_list.Statement.{statement}
 use Rattle.averaging.proofs.average_list.Tie as tie

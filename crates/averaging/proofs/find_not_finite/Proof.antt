@@ -5,9 +5,9 @@ use mathlib.Core.Path.{_≡_, refl, sym, ap, _∙_}
 use mathlib.Core.Bool.{true, not}
 use mathlib.Core.Option.{none}
 use borrow.Author.Needs.{needs}
-use Rattle.extrinsics.specs.Outcome.{lowest, foundOf}
+use Rattle.inputs.specs.Finding.{lowest, foundOf}
 use Rattle.averaging.specs.Entry.{isNotFinite}
-use Rattle.extrinsics.proofs.Lowest.{lowest-first, lowest-none-more}
+use Rattle.inputs.proofs.Lowest.{lowest-first, lowest-none-more}
 use Rattle.averaging.proofs.Listing.{lowestNotFinite-posesOf}
 use Rattle.averaging.proofs.find_not_finite.Statement.{statement}
 use Rattle.averaging.proofs.find_not_finite.Tie as tie

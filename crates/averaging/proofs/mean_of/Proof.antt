@@ -3,9 +3,9 @@ use Prim.Native.Nat.{_-_, _≤_}
 use native.Mathlib.Omega.{arith}
 use mathlib.Core.Path.{_≡_}
 use borrow.Author.Needs.{needs}
-use Rattle.arithmetic.specs.Average.{taken}
+use Rattle.average.specs.Average.{taken}
 use Rattle.averaging.specs.Listed.{posesOf, poseList}
-use Rattle.arithmetic.proofs.Averaging.{mean-taken}
+use Rattle.average.proofs.Averaging.{mean-taken}
 use Rattle.averaging.proofs.Listing.{taken-posesOf-next}
 use Rattle.averaging.proofs.mean_of.Statement.{statement}
 use Rattle.averaging.proofs.mean_of.Tie as tie

@@ -2,7 +2,7 @@
 use mathlib.Core.Path.{sym, _∙_}
 use borrow.Author.Needs.{needs}
 use lib.ListN.{length}
-use Rattle.extrinsics.proofs.Answering.{checkedOf-refused, checkedOf-passed}
+use Rattle.inputs.proofs.Answering.{checkedOf-refused, checkedOf-passed}
 use Rattle.extrinsics.proofs.DirectCall.{input-sizes, input-lengths, direct-refused, direct-fitting, direct-answers}
 use Rattle.extrinsics.proofs.estimate_extrinsics_from_cam_target_poses.Statement.{statement}
 use Rattle.extrinsics.proofs.estimate_extrinsics_from_cam_target_poses.Tie as tie

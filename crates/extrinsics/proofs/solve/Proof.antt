@@ -6,9 +6,9 @@ use borrow.Author.Needs.{needs}
 use Rattle.refusal.specs.declared.Refusal.the-variants.{Unreached}
 use Rattle.extrinsics.specs.Rig.{rigGrid}
 use Rattle.extrinsics.specs.Outcome.{gridRefusal}
-use Rattle.extrinsics.specs.Trees.{treeOf}
+use Rattle.chains.specs.Trees.{treeOf}
 use Rattle.extrinsics.proofs.Solving.{spots-masks, refused-not-finite, refused-unreached, all-placed, refused-empty-view, not-refused, answers-refused, answers-solved}
-use Rattle.extrinsics.proofs.Answering.{foundOf-at, foundOf-nothing}
+use Rattle.inputs.proofs.Answering.{foundOf-at, foundOf-nothing}
 use Rattle.extrinsics.proofs.solve.Statement.{statement}
 use Rattle.extrinsics.proofs.solve.Tie as tie
 

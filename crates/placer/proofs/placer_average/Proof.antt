@@ -6,10 +6,10 @@ use mathlib.Core.List.{_++_}
 use borrow.Author.Needs.{needs}
 use lib.ListN.{length, drop}
 use Rattle.arithmetic.specs.Pose.{flat, posesIn}
-use Rattle.arithmetic.specs.Average.{averageIsometries}
+use Rattle.average.specs.Average.{averageIsometries}
 use Rattle.arithmetic.specs.declared.pose.Pose.{Pose}
 use Rattle.placer.specs.Poses.{averageRefusal}
-use Rattle.extrinsics.proofs.Answering.{checkedOf-refused, checkedOf-passed, foundOf-at, foundOf-nothing}
+use Rattle.inputs.proofs.Answering.{checkedOf-refused, checkedOf-passed, foundOf-at, foundOf-nothing}
 use Rattle.placer.proofs.Averages.{listRefusal-none, refused-by-list, refused-by-number, not-refused}
 use Rattle.placer.proofs.Replies.{replied-some, replied-none}
 use Rattle.placer.proofs.placer_average.Statement.{statement}

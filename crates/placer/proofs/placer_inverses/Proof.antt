@@ -5,7 +5,7 @@ use mathlib.Core.List.{_++_}
 use borrow.Author.Needs.{needs}
 use lib.ListN.{length, drop}
 use Rattle.placer.specs.Poses.{posesRefusal, inversesOf}
-use Rattle.extrinsics.proofs.Answering.{checkedOf-passed}
+use Rattle.inputs.proofs.Answering.{checkedOf-passed}
 use Rattle.placer.proofs.Averages.{posesRefusal-none}
 use Rattle.placer.proofs.Products.{length-inversesOf}
 use Rattle.placer.proofs.Replies.{replied-refused, replied-written}

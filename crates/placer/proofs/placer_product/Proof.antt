@@ -6,7 +6,7 @@ use lib.ListN.{length, drop}
 use Rattle.arithmetic.specs.Pose.{flat}
 use Rattle.arithmetic.specs.declared.pose.Pose.{Pose}
 use Rattle.placer.specs.Poses.{posesRefusal}
-use Rattle.extrinsics.proofs.Answering.{checkedOf-passed}
+use Rattle.inputs.proofs.Answering.{checkedOf-passed}
 use Rattle.placer.proofs.Averages.{posesRefusal-none}
 use Rattle.placer.proofs.Replies.{replied-refused, replied-written}
 use Rattle.placer.proofs.placer_product.Statement.{statement}

@@ -2,7 +2,7 @@
 use borrow.Author.Tests.{lt-ltb, le-ltb}
 use borrow.Author.Needs.{needs}
 use Rattle.refusal.specs.Table.{refuseIf, orElse, firstOf}
-use Rattle.extrinsics.specs.Direct.{checkedOf}
+use Rattle.inputs.specs.Inputs.{checkedOf}
 use Rattle.session.specs.Call.{callRefusal}
 use Rattle.session.proofs.check_call.Statement.{statement}
 use Rattle.session.proofs.check_call.Tie as tie

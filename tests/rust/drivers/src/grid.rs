@@ -41,6 +41,11 @@ impl Grid {
         self.floats[POSE_FLOATS * cell..POSE_FLOATS * (cell + 1)].try_into().unwrap()
     }
 
+    /// The poses of the cells that are marked so.
+    pub fn held(&self) -> impl Iterator<Item = &[f64]> {
+        self.floats.chunks_exact(POSE_FLOATS).zip(&self.marks).filter(|(_, &mark)| mark == 1).map(|(pose, _)| pose)
+    }
+
     /// A grid with these marks and poses, each answer just as long as it must be.
     pub fn whole(views: usize, cameras: usize, reference: usize, held: &[bool], mut pose: impl FnMut(usize) -> Pose) -> Grid {
         let cells = views * cameras;

@@ -11,11 +11,12 @@ use borrow.Author.Tests.{eq-eqb, ne-eqb}
 use lib.Dec.{T}
 use lib.Ieee.{Float}
 use lib.Bits.{bitAnd, and-mask}
-use Rattle.extrinsics.specs.Masks.{inMask}
+use Rattle.chains.specs.Masks.{inMask}
 use Rattle.extrinsics.specs.Rig.{rigGrid}
-use Rattle.extrinsics.specs.Outcome.{lowest, isEmptyView, lowestEmptyView, foundOf}
+use Rattle.inputs.specs.Finding.{lowest, foundOf}
+use Rattle.extrinsics.specs.Outcome.{isEmptyView, lowestEmptyView}
 use Rattle.extrinsics.specs.declared.grid.Rig.{Rig}
-use Rattle.extrinsics.proofs.Lowest.{lowest-none-more, lowest-first, lowest-agree}
+use Rattle.inputs.proofs.Lowest.{lowest-none-more, lowest-first, lowest-agree}
 use Rattle.extrinsics.proofs.MaskUnion.{InOneOf}
 use Rattle.extrinsics.proofs.EmptyViews.{isEmptyView-not-inMask}
 use Rattle.extrinsics.proofs.checks.find_empty_view.Statement.{statement}

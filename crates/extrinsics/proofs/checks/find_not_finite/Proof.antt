@@ -11,11 +11,12 @@ use borrow.Author.Needs.{needs}
 use lib.ListN.{getD}
 use lib.Ieee.{Float}
 use Rattle.extrinsics.specs.Rig.{maskedCell, rigCell, rigGrid}
-use Rattle.extrinsics.specs.Outcome.{lowest, isNotFinite, lowestNotFinite, foundOf}
+use Rattle.inputs.specs.Finding.{lowest, foundOf}
+use Rattle.extrinsics.specs.Outcome.{isNotFinite, lowestNotFinite}
 use Rattle.extrinsics.specs.declared.grid.Cell.{Cell}
 use Rattle.extrinsics.specs.declared.grid.Cell.the-variants.{Empty}
 use Rattle.extrinsics.specs.declared.grid.Rig.{Rig}
-use Rattle.extrinsics.proofs.Lowest.{lowest-none-more, lowest-first}
+use Rattle.inputs.proofs.Lowest.{lowest-none-more, lowest-first}
 use Rattle.extrinsics.proofs.ViewCells.{row-inside, cellOf-rigCell, pose-inside, pose-place-lt, cell-place-lt}
 use Rattle.extrinsics.proofs.checks.find_not_finite.Statement.{statement}
 use Rattle.extrinsics.proofs.checks.find_not_finite.Tie as tie

@@ -5,7 +5,7 @@ use mathlib.Core.Path.{_≡_}
 use mathlib.Core.Logic.{_↔_}
 use borrow.Author.Needs.{needs}
 use lib.Dec.{T}
-use Rattle.extrinsics.specs.Masks.{inMask}
+use Rattle.chains.specs.Masks.{inMask}
 use Rattle.extrinsics.proofs.MaskUnion.{InOneOf, union-none, union-more}
 use Rattle.extrinsics.proofs.checks.held_views.Statement.{statement}
 use Rattle.extrinsics.proofs.checks.held_views.Tie as tie

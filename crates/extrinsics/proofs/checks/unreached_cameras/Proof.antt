@@ -10,13 +10,14 @@ use borrow.Author.Tests.{eq-eqb, ne-eqb}
 use lib.ListN.{getD}
 use lib.Dec.{eqb}
 use lib.Pow.{pow-mono}
-use Rattle.extrinsics.specs.Limits.{notPlacedByte}
+use Rattle.chains.specs.Limits.{notPlacedByte}
 use Rattle.extrinsics.specs.Grid.{spots, hasPlace}
-use Rattle.extrinsics.specs.Trees.{treeOf}
+use Rattle.chains.specs.Trees.{treeOf}
 use Rattle.extrinsics.specs.Rig.{rigGrid}
-use Rattle.extrinsics.specs.Outcome.{powerSum, unreachedSet}
-use Rattle.extrinsics.specs.declared.tree.Tree.{Tree}
-use Rattle.extrinsics.proofs.PowerSums.{powerSum-lt, powerSum-more, powerSum-same, powerSum-agree, one-shl}
+use Rattle.inputs.specs.Finding.{powerSum}
+use Rattle.extrinsics.specs.Outcome.{unreachedSet}
+use Rattle.chains.specs.declared.Tree.{Tree}
+use Rattle.inputs.proofs.PowerSums.{powerSum-lt, powerSum-more, powerSum-same, powerSum-agree, one-shl}
 use Rattle.extrinsics.proofs.PlaceBytes.{no-place-byte}
 use Rattle.extrinsics.proofs.checks.unreached_cameras.Statement.{statement}
 use Rattle.extrinsics.proofs.checks.unreached_cameras.Tie as tie

@@ -4,7 +4,7 @@ use mathlib.Core.Path.{sym, _∙_}
 use borrow.Author.Tests.{eq-eqb, ne-eqb}
 use borrow.Author.Needs.{needs}
 use lib.Bits.{and-mask}
-use Rattle.extrinsics.specs.Masks.{inMask}
+use Rattle.chains.specs.Masks.{inMask}
 use Rattle.extrinsics.specs.Rig.{maskedCell}
 use Rattle.extrinsics.proofs.grid.read_cell.Statement.{statement}
 use Rattle.extrinsics.proofs.grid.read_cell.Tie as tie

@@ -4,8 +4,8 @@ use Prim.Native.Nat.{_+_, _-_, _*_, _≤_}
 use native.Mathlib.Omega.{arith}
 use mathlib.Core.Path.{_≡_}
 use borrow.Author.Needs.{needs}
-use Rattle.arithmetic.specs.Average.{taken}
-use Rattle.arithmetic.proofs.Averaging.{mean-taken}
+use Rattle.average.specs.Average.{taken}
+use Rattle.average.proofs.Averaging.{mean-taken}
 use Rattle.extrinsics.specs.Estimate.{gather, linkCandidate, averagedLink}
 use Rattle.extrinsics.specs.Rig.{maskedCell, rigCell}
 use Rattle.extrinsics.proofs.Gathering.{taken-gather-next, length-linkCandidate-le}

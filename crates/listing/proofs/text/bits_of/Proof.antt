@@ -1,6 +1,7 @@
 -- `listing::text::bits_of` meets its contract: what differs from itself is the NaN, and anything else has bits of its own. Assumes nothing.
 use borrow.Author.Needs.{needs}
-use Rattle.listing.proofs.Digits.{toBits-nan, not-nan}
+use Rattle.root.proofs.Ends.{not-nan}
+use Rattle.listing.proofs.Digits.{toBits-nan}
 use Rattle.listing.proofs.text.bits_of.Statement.{statement}
 use Rattle.listing.proofs.text.bits_of.Tie as tie
 

@@ -3,7 +3,7 @@ use mathlib.Core.Path.{sym, _∙_}
 use borrow.Author.Tests.{eq-eqb, ne-eqb, lt-ltb, le-ltb}
 use borrow.Author.Needs.{needs}
 use Rattle.refusal.specs.Table.{refuseIf, firstOf}
-use Rattle.extrinsics.specs.Direct.{checkedOf}
+use Rattle.inputs.specs.Inputs.{checkedOf}
 use Rattle.placer.specs.Poses.{listRefusal}
 use Rattle.placer.proofs.Averages.{firstOf-last}
 use Rattle.placer.proofs.poses.check_list.Statement.{statement}

@@ -1,6 +1,6 @@
 -- `check_poses` meets its contract: its one test is that of `posesRefusal`. Assumes nothing.
 use Rattle.refusal.specs.Table.{refuseIf}
-use Rattle.extrinsics.specs.Direct.{checkedOf}
+use Rattle.inputs.specs.Inputs.{checkedOf}
 use Rattle.placer.specs.Poses.{posesRefusal}
 use Rattle.placer.proofs.poses.check_poses.Statement.{statement}
 use Rattle.placer.proofs.poses.check_poses.Tie as tie

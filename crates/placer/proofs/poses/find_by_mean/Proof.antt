@@ -2,7 +2,7 @@
 use mathlib.Core.Path.{sym, ap, _∙_}
 use borrow.Author.Needs.{needs}
 use Rattle.arithmetic.specs.Pose.{finitePose}
-use Rattle.extrinsics.specs.Outcome.{foundOf}
+use Rattle.inputs.specs.Finding.{foundOf}
 use Rattle.placer.proofs.FiniteMeans.{none-wild}
 use Rattle.placer.proofs.poses.find_by_mean.Statement.{statement}
 use Rattle.placer.proofs.poses.find_by_mean.Tie as tie

@@ -9,9 +9,9 @@ use borrow.Author.Needs.{needs}
 use lib.ListN.{length}
 use lib.Ieee.{Float}
 use Rattle.arithmetic.specs.Pose.{finitePose, poseAt}
-use Rattle.extrinsics.specs.Outcome.{lowest, foundOf}
+use Rattle.inputs.specs.Finding.{lowest, foundOf}
 use Rattle.placer.specs.Poses.{lowestNotFinite}
-use Rattle.extrinsics.proofs.Lowest.{lowest-none-more, lowest-first}
+use Rattle.inputs.proofs.Lowest.{lowest-none-more, lowest-first}
 use Rattle.placer.proofs.poses.find_not_finite.Statement.{statement}
 use Rattle.placer.proofs.poses.find_not_finite.Tie as tie
 

@@ -6,7 +6,7 @@ use mathlib.Core.Path.{sym, _∙_}
 use borrow.Author.Tests.{eq-eqb, ne-eqb, not-true, not-false}
 use borrow.Author.Needs.{needs}
 use Rattle.refusal.specs.Table.{refuseIf, orElse, firstOf}
-use Rattle.extrinsics.specs.Direct.{checkedOf}
+use Rattle.inputs.specs.Inputs.{checkedOf}
 use Rattle.session.specs.Session.{commandRefusal}
 use Rattle.session.proofs.PossibleRecords.{cell-inside}
 use Rattle.session.proofs.commands.check_pose.Statement.{statement}

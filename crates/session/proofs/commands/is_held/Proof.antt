@@ -4,7 +4,7 @@ use mathlib.Core.Path.{ap}
 use lib.Dec.{eqb}
 use lib.Bits.{and-mask}
 use borrow.Author.Needs.{needs}
-use Rattle.extrinsics.specs.Masks.{inMask}
+use Rattle.chains.specs.Masks.{inMask}
 use Rattle.session.proofs.commands.is_held.Statement.{statement}
 use Rattle.session.proofs.commands.is_held.Tie as tie
 

@@ -7,10 +7,11 @@ use lib.ListN.{getD}
 use lib.Ieee.{Float}
 use borrow.Author.Needs.{needs}
 use Rattle.arithmetic.specs.declared.pose.Pose.{Pose}
-use Rattle.session.specs.Command.{place, poseWidth, offeredPose}
+use Rattle.command.specs.Command.{place, poseWidth, offeredPose}
 use Rattle.session.specs.Session.{bufferAfter}
 use Rattle.session.specs.Call.{state, result, replyTo, stateAfter, firstAfter, secondAfter}
-use Rattle.session.specs.Steps.{placeAt, resultOf}
+use Rattle.command.specs.Parts.{placeAt}
+use Rattle.session.specs.Steps.{resultOf}
 use Rattle.session.specs.declared.Session.{Session}
 use Rattle.session.specs.declared.Step.{Step}
 use Rattle.session.specs.declared.Reply.the-variants.{Accepted}

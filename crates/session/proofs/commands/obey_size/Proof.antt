@@ -1,7 +1,7 @@
 -- `obey_size` meets its contract: 22 by the first test, then what `check_sizes` answers. Assumes nothing.
 use mathlib.Core.Path.{sym, ap, _∙_}
 use borrow.Author.Needs.{needs}
-use Rattle.session.specs.Command.{size}
+use Rattle.command.specs.Command.{size}
 use Rattle.session.specs.Session.{sessionAfter, bufferAfter}
 use Rattle.session.specs.Call.{state, replyTo, firstAfter, secondAfter, stateAfter}
 use Rattle.session.specs.Steps.{resultOf}

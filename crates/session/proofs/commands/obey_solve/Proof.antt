@@ -2,7 +2,7 @@
 use native.Mathlib.Omega.{arith}
 use mathlib.Core.Path.{sym, ap, _∙_}
 use borrow.Author.Needs.{needs}
-use Rattle.session.specs.Command.{solve}
+use Rattle.command.specs.Command.{solve}
 use Rattle.session.specs.Call.{state}
 use Rattle.session.specs.Steps.{resultOf}
 use Rattle.session.specs.declared.Step.{Step}

@@ -5,7 +5,7 @@ use mathlib.Core.Path.{_≡_, refl, sym, _∙_}
 use mathlib.Core.Bool.{true}
 use borrow.Author.Tests.{not-true, not-false}
 use borrow.Author.Needs.{needs}
-use Rattle.extrinsics.specs.Limits.{maxCameras}
+use Rattle.chains.specs.Limits.{maxCameras}
 use Rattle.session.specs.Session.{allBelow}
 use Rattle.session.specs.Steps.{maskFits}
 use Rattle.session.proofs.AllBelow.{allBelow-more, allBelow-fails}

@@ -20,11 +20,18 @@ struct Seen {
     with_minus_zero: u64,
     full: u64,
     single: u64,
+    with_negated: u64,
+    with_no_rotation: u64,
+    with_tiny_rotation: u64,
     lists: u64,
 }
 
 impl Seen {
     fn add(&mut self, grid: &Grid, verdict: &Verdict) {
+        let rotations = || grid.held().map(|pose| &pose[3..]);
+        self.with_negated += rotations().any(|q| q[3] < -0.9) as u64;
+        self.with_no_rotation += rotations().any(|q| q.iter().all(|x| *x == 0.0)) as u64;
+        self.with_tiny_rotation += rotations().any(|q| q.iter().any(|x| *x != 0.0) && q.iter().all(|x| x.abs() < 1e-139)) as u64;
         match verdict {
             Verdict::Refused { number, .. } => *self.refused.entry(*number).or_default() += 1,
             Verdict::Solved { transforms, chains } => {
@@ -63,6 +70,9 @@ impl Seen {
         want(self.with_minus_zero, "a minus zero");
         want(self.full, "a solved grid of 64 x 16");
         want(self.single, "a solved grid of 1 x 1");
+        want(self.with_negated, "a negated quaternion");
+        want(self.with_no_rotation, "a rotation of zeros");
+        want(self.with_tiny_rotation, "a tiny rotation");
         missing
     }
 
@@ -73,6 +83,10 @@ impl Seen {
         println!(
             "  of the solved: {} of 64 x 16, {} of 1 x 1; {} with a parent chosen by index; {} with an infinity in the answer, {} with a NaN, {} with a subnormal, {} with a minus zero",
             self.full, self.single, self.by_index, self.with_infinity, self.with_nan, self.with_subnormal, self.with_minus_zero
+        );
+        println!(
+            "  of all grids: {} with a negated quaternion, {} with a rotation of zeros, {} with a tiny one",
+            self.with_negated, self.with_no_rotation, self.with_tiny_rotation
         );
         println!("  lists averaged, multiplied and inverted: {}", self.lists);
     }
@@ -134,7 +148,7 @@ fn main() {
             break;
         }
     }
-    println!("compare: {grids} grids and lists of seed {seed}: {differences} differences");
+    println!("compare: {} grids and lists of seed {seed}: {differences} differences", seen.lists);
     seen.print();
     let missing = seen.missing();
     if only.is_none() && grids >= 10_000 && !missing.is_empty() {

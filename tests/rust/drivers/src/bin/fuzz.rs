@@ -1,5 +1,6 @@
 //! Feeds damaged streams to the library and to document 01's meaning of a stream with the Rust under Solve, call by call: `fuzz STREAMS SEED
-//! CORPUS`, or `fuzz STREAMS SEED CORPUS NUMBER` for one stream of such a run. Every call's answer and next offset, and all lent memory, are compared.
+//! CORPUS`, or `fuzz STREAMS SEED CORPUS NUMBER` for one stream of such a run. Every call's answer and next offset are compared, and all
+//! lent memory after the last call of a stream and after about one in eight of the others.
 
 use drivers::stream::*;
 use random::Random;
@@ -70,7 +71,7 @@ fn main() {
             state.buffer.clear();
             state.buffer.resize(BUFFER_FLOATS, filler);
             state.transforms.clear();
-            state.transforms.resize(FIRST_FLOATS + random.below(1) + (number % 3) as usize, filler);
+            state.transforms.resize(FIRST_FLOATS + (number % 3) as usize, filler);
             state.chains.clear();
             state.chains.resize(SECOND_BYTES + (number % 2) as usize, number as u8);
         }

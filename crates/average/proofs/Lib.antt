@@ -1,0 +1,2 @@
+-- Laws of averaging that belong to no one function.
+pub mod Averaging

@@ -1,0 +1,17 @@
+-- `hemisphere` meets its contract. Assumes nothing.
+use mathlib.Core.Path.{sym}
+use borrow.Author.Needs.{needs}
+use Rattle.average.proofs.hemisphere.Statement.{statement}
+use Rattle.average.proofs.hemisphere.Tie as tie
+
+dot-requires : tie.Need-dot-requires
+dot-requires c κs = search needs
+
+returns : tie.Need-returns
+returns c = simp (sym (c .before .dot .ensures), c .if1 .taken)
+
+returns-2 : tie.Need-returns-2
+returns-2 c = simp (sym (c .before .dot .ensures), c .if1 .left)
+
+pub hemisphere-spec : {M : Type 1} → statement M
+hemisphere-spec = tie.close (tie.spec dot-requires returns returns-2)

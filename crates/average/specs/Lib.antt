@@ -1,0 +1,2 @@
+-- The definitions that the contracts of `average` cite. Definitions only; their laws are in proofs/.
+pub mod Average

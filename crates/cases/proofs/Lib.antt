@@ -1,0 +1,3 @@
+-- That every row computes to what the paper says.
+pub mod ArithmeticCases
+pub mod Cases

@@ -1,0 +1,3 @@
+-- The theorems on what a whole stream prints.
+pub mod Loop
+pub mod Paper

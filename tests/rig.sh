@@ -1,0 +1,33 @@
+#!/bin/sh
+# Runs the program: on the bundled samples, against their listings; on 65,536 bytes and on one more; and, where there is a C compiler, on a
+# stream of the corpus against the example in C: rig.sh. Needs rt.
+set -eu
+root=$(cd "$(dirname "$0")/.." && pwd)
+cd "$root"
+mkdir -p target
+[ -x target/bin/rig ] || rt check rig >target/rig.log 2>&1 || { tail -n 20 target/rig.log >&2; exit 1; }
+work=$(mktemp -d)
+trap 'rm -rf "$work"' EXIT
+
+for name in listing five_cameras refused; do
+  target/bin/rig <samples/$name.stream | cmp - samples/$name.listing || { echo "rig: samples/$name.stream prints something else" >&2; exit 1; }
+done
+
+# Size again and again, 16,384 times: the first is obeyed, each later one is 22.
+printf '\001\001\001\000' >"$work/limit"
+for _ in 1 2 3 4 5 6 7 8 9 10 11 12 13 14; do
+  cat "$work/limit" "$work/limit" >"$work/twice"
+  mv "$work/twice" "$work/limit"
+done
+target/bin/rig <"$work/limit" >"$work/printed"
+[ "$(sort -u "$work/printed")" = 'no 22 0' ] && [ "$(wc -l <"$work/printed")" -eq 16383 ] || { echo "rig: 65,536 bytes print something else" >&2; exit 1; }
+printf '\003' >>"$work/limit"
+[ "$(target/bin/rig <"$work/limit")" = 'no 13 0' ] || { echo "rig: 65,537 bytes print something else" >&2; exit 1; }
+
+and=' (the example in C skipped: no C compiler is at hand)'
+if command -v "${CC:-cc}" >/dev/null 2>&1; then
+  sh examples/c/run.sh >"$work/example"
+  target/bin/rig <tests/corpus/line-of-four.stream | cmp - "$work/example" || { echo "rig: the example in C prints something else" >&2; exit 1; }
+  and=' and the example in C'
+fi
+echo "rig: the samples, the stream's limit$and, as expected"

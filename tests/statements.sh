@@ -1,0 +1,21 @@
+#!/bin/sh
+# Holds docs/STATEMENTS.md to the repository: every name that it gives in backticks is found in the crates, every file that it names is there,
+# and every must-fail edit is named.
+set -eu
+cd "$(dirname "$0")/.."
+map=docs/STATEMENTS.md
+wrong=0
+there() { for one in "$@"; do [ -e "$one" ] && return 0; done; return 1; }
+say() { echo "statements: $*"; wrong=1; }
+for edit in crates/*/must-fail/*.edit; do
+  grep -qw "$(basename "$edit" .edit)" "$map" || say "$edit is not named"
+done
+for name in $(grep -o '`[^` ]*`' "$map" | tr -d '`' | sort -u); do
+  case $name in
+  */*) there "$name" "crates/$name" crates/*/"$name" || say "no $name" ;;
+  *.antt | *.rt) [ -n "$(find crates -name "$name")" ] || say "no file $name" ;;
+  *) there "crates/$name" || grep -rqF --include='*.rt' --include='*.antt' -e "${name#*::}" crates || say "nothing is called $name" ;;
+  esac
+done
+[ "$wrong" -eq 0 ] && echo "statements: every name and file of $map is there, and every must-fail edit is named"
+exit "$wrong"
