@@ -8,7 +8,7 @@ cd "$(dirname "$0")/.."
 rt fmt --check
 sh tests/statements.sh
 mkdir -p target
-rt check rig averaging >target/check.log 2>&1 || { tail -n 20 target/check.log; exit 1; }
+rt check rig >target/check.log 2>&1 || { tail -n 20 target/check.log; exit 1; }
 sh tests/rig.sh
 
 source_folder=${RUST_SOURCE:-../shared/docs/src}
