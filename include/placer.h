@@ -3,10 +3,11 @@
  *
  * A slice passes as a pointer and a length, the length in elements and not in bytes. Where the length is 0 the pointer is not followed, and
  * NULL will do. Otherwise it is aligned as its type asks, and its length in bytes is at most PTRDIFF_MAX. What is lent to be written (not
- * const) overlaps no other argument of the same call. `next` is never NULL. No call keeps a pointer, allocates, blocks or reads anything but
+ * const) overlaps no other argument of the same call. `mean` and `next` are never NULL. No call keeps a pointer, allocates, blocks or reads anything but
  * its arguments, so calls on different memory may run at the same time.
  *
- * A pose is seven doubles: a translation x, y, z, then a quaternion i, j, k, w. Any four finite numbers are taken as a rotation.
+ * A pose is seven doubles: a translation x, y, z, then a quaternion i, j, k, w, w last. A camera's pose of a target maps points of the target into the camera's
+ * frame. Any four finite numbers are taken as a rotation. A cell's number, which 6 and 7 name, is view * cameras + camera.
  *
  * A reply of 2^32 or more is a refusal: its number in the upper 32 bits, what it names in the lower, 0 if nothing. A refusal writes nothing
  * (but `next`). No argument is too odd to be refused: there is no condition on the caller but the one on memory above. */
@@ -42,8 +43,8 @@ enum placer_refusal {
     PLACER_INVALID_REFERENCE = 3, /* the reference is not below the camera count */
     PLACER_COUNT_DIFFERS = 4,     /* the lowest view whose count differs from view 0's */
     PLACER_WRONG_LENGTH = 5,      /* a length that does not fit, or a session record that no accepted commands leave */
-    PLACER_BAD_MARK = 6,          /* the lowest cell with a mark above 1 */
-    PLACER_NOT_FINITE = 7,        /* the lowest cell, or pose of a list, with a number that is not finite */
+    PLACER_BAD_MARK = 6,          /* the lowest cell with a mark above 1: view * cameras + camera */
+    PLACER_NOT_FINITE = 7,        /* the lowest cell (view * cameras + camera), or pose of a list, with a number that is not finite */
     PLACER_UNREACHED = 8,         /* the cameras without a chain: the sum of 2 to the power c over them */
     PLACER_EMPTY_VIEW = 9,        /* the lowest view without poses */
     PLACER_UNKNOWN_COMMAND = 10,  /* the byte */
@@ -58,29 +59,27 @@ enum placer_refusal {
 /* The square root of IEEE 754: the nearest double, ties to even; of a NaN or of anything below zero a NaN. */
 double placer_sqrt(double x);
 
-/* The average of 1 to 64 poses, into the first seven doubles of `mean`. Refused: no floats with 1, more than 64 poses with 2, floats that
- * are not seven for each pose or a mean of fewer than seven with 5 (so 449 to 454 floats are refused with 2), a number that is not finite with 7, in this order. */
-uint64_t placer_average(const double *poses, size_t poses_length, double *mean, size_t mean_length);
+/* A pose as a record: a translation, and a quaternion with w last. */
+struct rig_pose {
+    double x, y, z;
+    double i, j, k, w;
+};
 
-/* The product of poses, in order, into the first seven doubles of `product`; of none the identity. Numbers that are not finite are taken.
- * Refused with 5: floats that are not seven
- * for each pose, or a product of fewer than seven. */
-uint64_t placer_product(const double *poses, size_t poses_length, double *product, size_t product_length);
-
-/* The inverse of each pose, each at its own place in `inverses`. Numbers that are not finite are taken. Refused with 5: floats that are not seven for each pose, or fewer
- * inverses than poses. */
-uint64_t placer_inverses(const double *poses, size_t poses_length, double *inverses, size_t inverses_length);
+/* The average of 1 to 64 poses, its seven numbers into `mean`; the reply is then 0. Refused: no poses with 1, more than 64 with 2, a number
+ * that is not finite with 7 (detail the lowest such pose), in this order. */
+uint64_t rig_average_isometries(const struct rig_pose *poses, size_t poses_length, double mean[7]);
 
 /* The direct call: per view a count of cameras; a mark for each cell, 0 empty and 1 a pose, view after view; seven doubles for each cell,
  * those of an empty one ignored; the reference camera. Solved, the reply is 0, and the answers hold
  *   transforms: seven doubles for each camera, its pose in the frame of the reference, and then for each view, its target's pose there;
  *   chains:     for each camera its parent and the number of links to the reference, whose own are itself and 0.
- * They need 7 * (cameras + views) doubles and 2 * cameras bytes, and keep what they have beyond. Refused: 1 to 9, in this order. */
+ * They need 7 * (cameras + views) doubles and 2 * cameras bytes, and keep what they have beyond. Refused, in this order: the views by 1, then 2; the cameras of
+ * view 0 by 1, then 2; then 3 to 9. */
 uint64_t placer_estimate(const uint32_t *counts, size_t counts_length, const uint8_t *marks, size_t marks_length, const double *floats,
                          size_t floats_length, uint32_t reference, double *transforms, size_t transforms_length, uint8_t *chains,
                          size_t chains_length);
 
-/* What placer_step replies where nothing is refused. */
+/* What placer_step replies where nothing is refused. Unlike placer_estimate's, its 0 is no success but the end: compare with these, not with 0. */
 #define PLACER_END 0      /* the offset is the stream's length */
 #define PLACER_ACCEPTED 1 /* Size or Pose was obeyed */
 #define PLACER_SOLVED 2   /* Solve was obeyed: the answers hold the rig, as placer_estimate leaves it */
@@ -89,12 +88,12 @@ uint64_t placer_estimate(const uint32_t *counts, size_t counts_length, const uin
  *   0x01 Size:  views, cameras, reference, one byte each
  *   0x02 Pose:  view, camera, one byte each, then seven doubles, low byte first
  *   0x03 Solve
- * A session is the record, PLACER_RECORD_WORDS words that are all 0 at first (one mask of views for each camera, bit v for view v; then at 16,
- * 17 and 18 the views, the cameras and the reference), and the buffer, of exactly PLACER_BUFFER_FLOATS doubles, which
- * the caller keeps from call to call and need not fill. Both answers have at least PLACER_FIRST_FLOATS and PLACER_SECOND_BYTES. Refused: 13 and
- * then 5 before all else; 10 and 11; 21 and 22; 1, 2 and 3 by Size; 12, 23 and 7 by Pose; 7, 8 and 9 by Solve. After 5, 10, 11 and 13 `next` is
- * the stream's length, and after any other the offset of the next command. */
-uint64_t placer_step(uint64_t *record, size_t record_length, const uint8_t *stream, size_t stream_length, size_t at, double *buffer,
+ * What a session holds is its record, `session`, of exactly PLACER_RECORD_WORDS words that are all 0 at first (one mask of views for each camera, bit v
+ * for view v; then at 16, 17 and 18 the views, the cameras and the reference), and its poses, `buffer`, of exactly PLACER_BUFFER_FLOATS
+ * doubles, a cell's seven from 7 * (view * 16 + camera), which the caller keeps from call to call and need not fill. Size and Pose leave both answers as they are. Both answers have at least PLACER_FIRST_FLOATS and
+ * PLACER_SECOND_BYTES. Refused: 13 and then 5 before all else; 10 and 11; 21 and 22; by Size its views by 1, then 2, its cameras by 1, then 2, then 3; 12, 23 and 7 by Pose;
+ * 7, 8 and 9 by Solve. After 5, 10, 11 and 13 `next` is the stream's length, and after any other the offset of the next command. */
+uint64_t placer_step(uint64_t *session, size_t session_length, const uint8_t *stream, size_t stream_length, size_t at, double *buffer,
                      size_t buffer_length, double *transforms, size_t transforms_length, uint8_t *chains, size_t chains_length, size_t *next);
 
 #ifdef __cplusplus

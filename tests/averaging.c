@@ -3,7 +3,7 @@
 #include <stdio.h>
 #include <string.h>
 
-#include "averaging.h"
+#include "placer.h"
 
 _Static_assert(sizeof(struct rig_pose) == 7 * sizeof(double), "a record is seven doubles");
 _Static_assert(offsetof(struct rig_pose, i) == 3 * sizeof(double), "the rotation follows the translation");
@@ -30,6 +30,6 @@ int main(void) {
     expect("64 poses", poses, 64, 0, 31.5);
     poses[40].k = INFINITY;
     expect("pose 40", poses, 64, ((uint64_t)7 << 32) + 40, 0);
-    if (!failed) printf("averaging.h: 5 calls, all as expected\n");
+    if (!failed) printf("averaging from C: 5 calls, all as expected\n");
     return failed;
 }

@@ -1,4 +1,4 @@
-//! Calls `rig_average_isometries` of libaveraging.a with every kind of list: each refusal with its detail, and means that are known.
+//! Calls `rig_average_isometries` of libplacer.a with every kind of list: each refusal with its detail, and means that are known.
 //! `tests/averaging.sh` builds and runs it.
 
 #[repr(C)]
@@ -55,5 +55,5 @@ fn main() {
             }
         }
     }
-    println!("averaging: {checks} calls, all as expected");
+    println!("averaging from Rust: {checks} calls, all as expected");
 }

@@ -1,6 +1,7 @@
 #!/bin/sh
-# Runs the program: on the bundled samples, against their listings; on 65,536 bytes and on one more; and, where there is a C compiler, on a
-# stream of the corpus against the example in C: rig.sh. Needs rt.
+# Runs the program: on the bundled samples, against their listings; on 65,536 bytes and on one more; where there is a C compiler, on a stream of
+# the corpus against the example in C; and by rig.py on drawn streams, the largest rig, and inputs and outputs that are slow or fail: rig.sh.
+# Needs rt and python3.
 set -eu
 root=$(cd "$(dirname "$0")/.." && pwd)
 cd "$root"
@@ -31,3 +32,4 @@ if command -v "${CC:-cc}" >/dev/null 2>&1; then
   and=' and the example in C'
 fi
 echo "rig: the samples, the stream's limit$and, as expected"
+python3 -B tests/rig.py target/bin/rig

@@ -1,6 +1,6 @@
 #!/bin/sh
 # Holds docs/STATEMENTS.md to the repository: every name that it gives in backticks is found in the crates, every file that it names is there,
-# and every must-fail edit is named.
+# every must-fail edit is named, and the lines to believe are those that the papers quote.
 set -eu
 cd "$(dirname "$0")/.."
 map=docs/STATEMENTS.md
@@ -17,5 +17,11 @@ for name in $(grep -o '`[^` ]*`' "$map" | tr -d '`' | sort -u); do
   *) there "crates/$name" || grep -rqF --include='*.rt' --include='*.antt' -e "${name#*::}" crates || say "nothing is called $name" ;;
   esac
 done
+if command -v python3 >/dev/null 2>&1; then
+  believe=$(python3 tests/believe.py | tail -n 1)
+  for paper in README.md "$map"; do
+    grep -qF "$believe" "$paper" || say "$paper does not say '$believe'"
+  done
+fi
 [ "$wrong" -eq 0 ] && echo "statements: every name and file of $map is there, and every must-fail edit is named"
 exit "$wrong"

@@ -235,7 +235,11 @@ fn main() {
         rounds,
         "product of poses, each",
         poses.len(),
-        || keep(placer::product(black_box(&poses))),
+        || {
+            let mut product: Pose = [0.0; POSE_FLOATS];
+            probe::product(black_box(&floats), &mut product);
+            keep(product)
+        },
         || keep(black_box(&isos).iter().fold(Iso3::identity(), |all, p| all * p)),
     );
     let mut inverses = isos.clone();
@@ -244,8 +248,7 @@ fn main() {
         "inverse of a pose",
         poses.len(),
         || {
-            let floats = black_box(&floats);
-            black_box(unsafe { placer::ffi::placer_inverses(floats.as_ptr(), floats.len(), answer.as_mut_ptr(), answer.len()) });
+            black_box(probe::inverses(black_box(&floats), &mut answer));
             black_box(&answer);
         },
         || {

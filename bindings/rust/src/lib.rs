@@ -1,6 +1,6 @@
 //! Rig extrinsics from camera-target poses: safe Rust over libplacer.a, whose every function is proved to answer what its contract says.
 //!
-//! A pose is seven doubles: a translation x, y, z, then a quaternion i, j, k, w. [`Session`], [`place_rig`], [`inverses`] and [`cameras_in`] allocate;
+//! A pose is seven doubles: a translation x, y, z, then a quaternion i, j, k, w. [`Session`], [`place_rig`] and [`cameras_in`] allocate;
 //! the library itself never does.
 
 #![warn(missing_docs)]
@@ -9,15 +9,13 @@ use std::fmt;
 
 /// The exports themselves, as include/placer.h declares them. A slice is a pointer and a length, and NULL will do where the length is 0.
 pub mod ffi {
+    use super::{Pose, POSE_FLOATS};
+
     extern "C" {
         /// The square root of IEEE 754.
         pub fn placer_sqrt(x: f64) -> f64;
-        /// The average of poses, into seven doubles.
-        pub fn placer_average(poses: *const f64, poses_len: usize, mean: *mut f64, mean_len: usize) -> u64;
-        /// The product of poses, in order, into seven doubles.
-        pub fn placer_product(poses: *const f64, poses_len: usize, product: *mut f64, product_len: usize) -> u64;
-        /// The inverse of each pose, each at its own place.
-        pub fn placer_inverses(poses: *const f64, poses_len: usize, inverses: *mut f64, inverses_len: usize) -> u64;
+        /// The average of poses, into seven doubles; `mean` is never NULL.
+        pub fn rig_average_isometries(poses: *const Pose, poses_len: usize, mean: *mut [f64; POSE_FLOATS]) -> u64;
         /// The direct call.
         #[allow(clippy::too_many_arguments)]
         pub fn placer_estimate(
@@ -139,29 +137,9 @@ pub fn sqrt(x: f64) -> f64 {
 ///
 /// Refused: no poses with 1, more than 64 with 2, a number that is not finite with 7, detail being the lowest such pose.
 pub fn average(poses: &[Pose]) -> Result<Pose, Refusal> {
-    let floats = poses.as_flattened();
     let mut mean = [0.0; POSE_FLOATS];
-    Refusal::from_reply(unsafe { ffi::placer_average(floats.as_ptr(), floats.len(), mean.as_mut_ptr(), mean.len()) })?;
+    Refusal::from_reply(unsafe { ffi::rig_average_isometries(poses.as_ptr(), poses.len(), &mut mean) })?;
     Ok(mean)
-}
-
-/// The product of poses, in order; of none the identity.
-pub fn product(poses: &[Pose]) -> Pose {
-    let floats = poses.as_flattened();
-    let mut product = [0.0; POSE_FLOATS];
-    // Seven floats a pose and room for seven: nothing is refused.
-    unsafe { ffi::placer_product(floats.as_ptr(), floats.len(), product.as_mut_ptr(), product.len()) };
-    product
-}
-
-/// The inverse of each pose.
-pub fn inverses(poses: &[Pose]) -> Vec<Pose> {
-    let mut inverses = vec![[0.0; POSE_FLOATS]; poses.len()];
-    let floats = poses.as_flattened();
-    let answer = inverses.as_flattened_mut();
-    // Seven floats a pose and as much room: nothing is refused.
-    unsafe { ffi::placer_inverses(floats.as_ptr(), floats.len(), answer.as_mut_ptr(), answer.len()) };
-    inverses
 }
 
 /// The direct call, on lent memory: per view its camera count; a mark for each cell, 0 empty and 1 a pose, view after view; seven

@@ -1,5 +1,5 @@
-//! Every export, through the declarations of `ffi`, with every refusal that it has and with what it accepts: so that the declarations here, in
-//! include/placer.h and in crates/placer/src/lib.rt are one. Guards stand around all memory that is lent, and a refusal must leave it alone.
+//! Every export, through the declarations of `ffi`, with every refusal that it has and with what it accepts: so that the declarations here
+//! and in crates/placer/src/lib.rt are one. Guards stand around all memory that is lent, and a refusal must leave it alone.
 
 use placer::ffi;
 use placer::*;
@@ -36,43 +36,40 @@ fn roots() {
 
 // ---- lists of poses
 
-fn average_of(floats: &[f64], room: usize) -> (u64, Vec<f64>) {
-    lent(room, |mean, length| unsafe { ffi::placer_average(floats.as_ptr(), floats.len(), mean, length) })
+/// The reply, and the mean in the middle of guards.
+fn average_of(poses: &[Pose]) -> (u64, Pose) {
+    let mut memory = [[GUARD; POSE_FLOATS]; 3];
+    let reply = unsafe { ffi::rig_average_isometries(poses.as_ptr(), poses.len(), &mut memory[1]) };
+    let [before, mean, behind] = memory;
+    assert_eq!((before, behind), ([GUARD; POSE_FLOATS], [GUARD; POSE_FLOATS]), "memory around the mean was written");
+    (reply, mean)
 }
 
 #[test]
 fn average_refuses() {
-    let list = |poses: usize| STANDING.repeat(poses);
-    for (floats, room, expected) in [
-        (list(0), 7, refusal(1, 0)),
-        (list(0), 0, refusal(1, 0)),
-        (list(65), 7, refusal(2, 0)),
-        (list(65), 0, refusal(2, 0)),
-        (list(64)[..447].to_vec(), 7, refusal(5, 0)),
-        (list(1)[..6].to_vec(), 7, refusal(5, 0)),
-        (list(2), 6, refusal(5, 0)),
-        (list(2), 0, refusal(5, 0)),
-    ] {
-        let (reply, mean) = average_of(&floats, room);
-        assert_eq!(reply, expected, "{} floats, room for {room}", floats.len());
-        assert!(mean.iter().all(|&x| x == GUARD), "a refusal wrote");
+    let refused = |poses: &[Pose], expected: u64| assert_eq!(average_of(poses), (expected, [GUARD; POSE_FLOATS]), "{} poses", poses.len());
+    let mut poses = [STANDING; 1000];
+    refused(&poses[..0], refusal(1, 0));
+    for count in [65, 66, 1000] {
+        refused(&poses[..count], refusal(2, 0));
     }
+    // 2 comes before 7.
+    poses[0][0] = f64::NAN;
+    refused(&poses[..65], refusal(2, 0));
     for x in [f64::NAN, f64::INFINITY, f64::NEG_INFINITY] {
-        for at in 0..7 {
-            let mut floats = list(64);
-            floats[7 * 40 + at] = x;
-            floats[7 * 63 + at] = x;
-            assert_eq!(average_of(&floats, 7).0, refusal(7, 40));
+        for at in 0..POSE_FLOATS {
+            let mut poses = [STANDING; 64];
+            poses[63][at] = x;
+            refused(&poses, refusal(7, 63));
+            poses[40][at] = x;
+            refused(&poses, refusal(7, 40));
         }
     }
-    // 5 comes before 7.
-    assert_eq!(average_of(&[f64::NAN; 8], 7).0, refusal(5, 0));
 }
 
 #[test]
 fn average_answers() {
-    let (reply, mean) = average_of(&STANDING.repeat(64), 9);
-    assert_eq!((reply, &mean[..7], &mean[7..]), (0, &STANDING[..], &[GUARD; 2][..]));
+    assert_eq!(average_of(&[STANDING; 64]), (0, STANDING));
     // P10, P12, and a sum of translations.
     let turned = |w: f64| [0.0, 0.0, 0.0, 0.0, 0.0, 0.0, w];
     assert_eq!(average(&[turned(1.0), turned(-1.0)]), Ok(turned(1.0)));
@@ -82,37 +79,6 @@ fn average_answers() {
     let far = [f64::MAX, 0.0, 0.0, 0.0, 0.0, 0.0, 1.0];
     assert_eq!(average(&[far, far]).unwrap()[0], f64::INFINITY);
     assert_eq!(average(&[]), Err(Refusal { number: 1, detail: 0 }));
-}
-
-#[test]
-fn product_refuses_and_answers() {
-    let call = |floats: &[f64], room| lent(room, |answer, length| unsafe { ffi::placer_product(floats.as_ptr(), floats.len(), answer, length) });
-    for (floats, room) in [(&STANDING[..6], 7), (&STANDING[..1], 7), (&STANDING[..], 6), (&[], 6), (&[], 0)] {
-        let (reply, answer) = call(floats, room);
-        assert_eq!(reply, refusal(5, 0));
-        assert!(answer.iter().all(|&x| x == GUARD), "a refusal wrote");
-    }
-    let (reply, answer) = call(&STANDING.repeat(3), 8);
-    assert_eq!((reply, &answer[..]), (0, &[3.0, 6.0, 9.0, 0.0, 0.0, 0.0, 1.0, GUARD][..]));
-    assert_eq!(product(&[]), [0.0, 0.0, 0.0, 0.0, 0.0, 0.0, 1.0]);
-    // A half turn about z, then a step along x.
-    let half_turn = [0.0, 0.0, 0.0, 0.0, 0.0, 1.0, 0.0];
-    assert_eq!(product(&[half_turn, STANDING])[..3], [-1.0, -2.0, 3.0]);
-}
-
-#[test]
-fn inverses_refuse_and_answer() {
-    let call = |floats: &[f64], room| lent(room, |answer, length| unsafe { ffi::placer_inverses(floats.as_ptr(), floats.len(), answer, length) });
-    for (floats, room) in [(&STANDING[..6], 7), (&STANDING[..], 6), (&STANDING[..], 0)] {
-        let (reply, answer) = call(floats, room);
-        assert_eq!(reply, refusal(5, 0));
-        assert!(answer.iter().all(|&x| x == GUARD), "a refusal wrote");
-    }
-    let (reply, answer) = call(&STANDING, 8);
-    assert_eq!((reply, &answer[..3], answer[7]), (0, &[-1.0, -2.0, -3.0][..], GUARD));
-    assert_eq!(inverses(&[]), Vec::<Pose>::new());
-    let inverse = inverses(&[STANDING])[0];
-    assert_eq!(product(&[STANDING, inverse])[..3], [0.0; 3]);
 }
 
 // ---- the direct call
@@ -380,12 +346,7 @@ fn step_obeys() {
 #[test]
 fn null_will_do_for_nothing() {
     unsafe {
-        assert_eq!(ffi::placer_average(null(), 0, null_mut(), 0), refusal(1, 0));
-        assert_eq!(ffi::placer_product(null(), 0, null_mut(), 0), refusal(5, 0));
-        let mut identity = [GUARD; 7];
-        assert_eq!(ffi::placer_product(null(), 0, identity.as_mut_ptr(), 7), 0);
-        assert_eq!(identity, [0.0, 0.0, 0.0, 0.0, 0.0, 0.0, 1.0]);
-        assert_eq!(ffi::placer_inverses(null(), 0, null_mut(), 0), 0);
+        assert_eq!(ffi::rig_average_isometries(null(), 0, &mut [GUARD; POSE_FLOATS]), refusal(1, 0));
         assert_eq!(ffi::placer_estimate(null(), 0, null(), 0, null(), 0, 0, null_mut(), 0, null_mut(), 0), refusal(1, 0));
         let counts = [1];
         assert_eq!(ffi::placer_estimate(counts.as_ptr(), 1, null(), 0, null(), 0, 0, null_mut(), 0, null_mut(), 0), refusal(5, 0));

@@ -1,2 +1,3 @@
 -- Laws and theorems of `arithmetic` that belong to no one function, a file a topic.
 pub mod Finite
+pub mod Rows

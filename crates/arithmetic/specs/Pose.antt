@@ -1,8 +1,8 @@
 -- Poses, as document 01's "Poses and roots" has them: a translation and a rotation, their products, the inverse, and the rounding order that is read as nalgebra's.
 -- Rests on the operators of `Double`.
-use Prim.Native.Nat.{ℕ, suc, zero, _+_, _*_}
+use Prim.Native.Nat.{ℕ, _+_}
 use mathlib.Core.Bool.{Bool, _&&_}
-use mathlib.Core.List.{List, [], _∷_, _++_}
+use mathlib.Core.List.{List, [], _∷_}
 use lib.ListN.{getD}
 use lib.Ieee.{Float, nan, neg}
 use lib.Ieee.Scale.{finite}
@@ -104,9 +104,3 @@ unfoldable pub poseAt : List Float → ℕ → Pose
 poseAt l at =
     pose (vec3 (getD l at nan) (getD l (at + 1) nan) (getD l (at + 2) nan))
     (quaternion (getD l (at + 3) nan) (getD l (at + 4) nan) (getD l (at + 5) nan) (getD l (at + 6) nan))
-
--- The first n poses of the list.
-unfoldable pub posesIn : ℕ → List Float → List Pose
-unfolding poseAt
-posesIn zero l = []
-posesIn (suc n) l = posesIn n l ++ (poseAt l (7 * n) ∷ [])

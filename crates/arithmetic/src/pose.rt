@@ -246,6 +246,3 @@ impl Pose {
         part[6] = q.w;
     }
 }
-
-// How many floats a pose takes.
-pub const POSE_FLOATS: usize = 7;

@@ -1,16 +1,16 @@
 -- Laws of averaging one pose at a time: what `Average` holds after the poses of a list is `taken` of that list, and its mean is the list's average.
 -- Assumes nothing.
-use Prim.Native.Nat.{ℕ, zero, suc, _+_, _*_, _^_, _<_}
+use Prim.Native.Nat.{suc, _+_, _^_, _<_}
 use native.Mathlib.Nat.{mod-eq-of-lt}
-use native.Mathlib.Numerals.{add-one}
 use native.Mathlib.Omega.{arith}
-use mathlib.Core.Path.{_≡_, refl, sym, ap, _∙_}
+use mathlib.Core.Path.{_≡_, refl, ap₂}
 use mathlib.Core.List.{List, [], _∷_, _++_, foldl-append}
 use borrow.Author.Tests.{ne-eqb}
 use lib.ListN.{length, length-append}
-use lib.Ieee.{Float}
-use Rattle.arithmetic.specs.Pose.{zeroVec, poseAt, posesIn}
-use Rattle.average.specs.Average.{zeroQuat, plusTranslation, plusRotation, taken, plusPose, meanOf, averageIsometries}
+use Rattle.arithmetic.specs.Pose.{zeroVec}
+use Rattle.average.specs.Average.{zeroQuat, plusTranslation, plusRotation, translationSum, rotationSum, firstRotation, taken, plusPose, meanOf, averageIsometries}
+use Rattle.arithmetic.specs.declared.pose.Vec3.{Vec3}
+use Rattle.arithmetic.specs.declared.pose.Quaternion.{Quaternion}
 use Rattle.arithmetic.specs.declared.pose.Pose.{Pose}
 
 -- One pose more, while the count does not wrap.
@@ -30,14 +30,7 @@ pub mean-taken : (l : List Pose) → meanOf (taken l .count) (taken l .translati
 unfolding taken averageIsometries
 mean-taken l = refl
 
-pub length-posesIn : (n : ℕ) (l : List Float) → length (posesIn n l) ≡ n
-unfolding posesIn
-length-posesIn zero l = refl
-length-posesIn (suc n) l = simp length-append (omega (arith, length-posesIn n l))
-
--- One pose more of those in a list of floats.
-pub taken-next : (n : ℕ) (l : List Float) → n + 1 < 2 ^ 32 → plusPose (taken (posesIn n l)) (poseAt l (7 * n)) ≡ taken (posesIn (n + 1) l)
-unfolding posesIn
-taken-next n l h =
-    taken-append (posesIn n l) (poseAt l (7 * n)) (omega (arith, length-posesIn n l))
-    ∙ ap (λ (k : ℕ). taken (posesIn k l)) (sym (add-one n))
+-- An average by its sums, where they are known.
+pub average-sums : (l : List Pose) {t : Vec3} {s : Quaternion} → translationSum l ≡ t → rotationSum (firstRotation l) l ≡ s → averageIsometries l ≡ meanOf (length l) t s
+unfolding averageIsometries
+average-sums l translations rotations = ap₂ (meanOf (length l)) translations rotations

@@ -1,2 +1,3 @@
 -- Laws of averaging that belong to no one function.
 pub mod Averaging
+pub mod Rows

@@ -1,19 +1,12 @@
 // The average of poses, one pose at a time: translations and rotations are summed as they come, and the sums become the
 // average at the end. So no list of candidates is kept. Named after the Rust's `average_isometries`.
 ghost use mathlib.Core.Path.{_≡_};
-ghost use Prim.Native.Nat.{_/_, min};
 ghost use mathlib.Core.List.{[]};
-ghost use lib.ListN.{length};
-ghost use Rattle.arithmetic.specs.Pose.{posesIn};
-ghost use Rattle.average.specs.Average.{sign, plusTranslation, plusRotation, overVec, overQuat, normalize, meanRotation, meanOf, taken, firstOf, plusPose, averageIsometries};
-use arithmetic::pose::POSE_FLOATS;
+ghost use Rattle.average.specs.Average.{sign, plusTranslation, plusRotation, overVec, overQuat, normalize, meanRotation, meanOf, taken, firstOf, plusPose};
 use arithmetic::pose::Pose;
 use arithmetic::pose::Quaternion;
 use arithmetic::pose::Vec3;
 use root::sqrt;
-
-// The most poses that one average takes: one for each view of a rig.
-pub const MOST_POSES: usize = 64;
 
 // The sums of the poses taken so far, how many there were, and the first one's rotation.
 pub struct Average {
@@ -138,31 +131,4 @@ impl Average {
             rotation: mean_rotation(count, self.rotations),
         }
     }
-}
-
-// How many poses that many floats hold, and 64 where they hold more.
-fn pose_count(floats: usize) -> usize
-    ensures { λ r. ⌜ r ≡ min (floats / 7) 64 ⌝ }
-{
-    let whole = floats / POSE_FLOATS;
-    if MOST_POSES < whole {
-        MOST_POSES
-    } else {
-        whole
-    }
-}
-
-// The average of poses lent as floats, seven for each: of the first 64, where there are more. Floats past the last whole pose are
-// left out. Of no pose at all the translation is 0 / 0 and the rotation the identity: callers lend at least one.
-pub fn average_floats(poses: &[f64]) -> Pose
-    ensures { λ r. ⌜ r ≡ averageIsometries (posesIn (min (length (now (poses .entry)) / 7) 64) (now (poses .entry))) ⌝ }
-{
-    let n = pose_count(poses.len());
-    let mut sum = Average::new();
-    let mut i = 0;
-    while i < n {
-        sum = sum.add(Pose::read(poses, POSE_FLOATS * i));
-        i += 1;
-    }
-    sum.mean()
 }

@@ -1,9 +1,7 @@
--- Laws of the outcome of averaging: one for each of its cases, and that a list that was read has the outcome of the list itself. Assumes nothing.
-use Prim.Native.Nat.{ℕ, _-_, _≤_, _<_}
-use native.Mathlib.Nat.{eq-zero-or-pos}
+-- Laws of the outcome of averaging: one for each of its cases. Assumes nothing.
+use Prim.Native.Nat.{ℕ, _≤_, _<_}
 use native.Mathlib.Omega.{arith}
-use mathlib.Core.Path.{_≡_, sym, ap, _∙_}
-use mathlib.Core.Logic.{⊎-elim}
+use mathlib.Core.Path.{_≡_}
 use mathlib.Core.Option.{none, some}
 use mathlib.Core.List.{List}
 use borrow.Author.Tests.{eq-eqb, ne-eqb, lt-ltb, le-ltb}
@@ -12,10 +10,9 @@ use Rattle.average.specs.Average.{averageIsometries}
 use Rattle.arithmetic.specs.declared.pose.Pose.{Pose}
 use Rattle.refusal.specs.Table.{refuseIf, refuseAt, orElse, firstOf}
 use Rattle.refusal.specs.declared.Refusal.the-variants.{InsufficientData, TooMany, NotFinite}
-use Rattle.averaging.specs.Listed.{maxPoses, listed, readTo, posesOf}
+use Rattle.averaging.specs.Gathered.{maxPoses}
 use Rattle.averaging.specs.Entry.{lowestNotFinite, averageRefusal, averagedBy, averagedOf}
 use Rattle.averaging.specs.declared.Averaged.the-variants.{Refused, Mean}
-use Rattle.averaging.proofs.Listing.{posesOf-listed, length-posesOf}
 
 pub averagedOf-empty : (l : List Pose) → length l ≡ 0 → averagedOf l ≡ Refused InsufficientData
 unfolding averagedOf averageRefusal averagedBy firstOf orElse refuseIf
@@ -33,12 +30,3 @@ module _ (l : List Pose) (some-pose : length l ≡ 0 → ⊥) (few : length l �
   pub averagedOf-mean : lowestNotFinite l ≡ none → averagedOf l ≡ Mean (averageIsometries l)
   unfolding averagedOf averageRefusal averagedBy firstOf orElse refuseIf refuseAt
   averagedOf-mean e = simp (ne-eqb _ _ some-pose, le-ltb _ _ few, e)
-
-pub averagedOf-listed : (l : List Pose) → averagedOf (posesOf (listed l)) ≡ averagedOf l
-unfolding listed readTo
-averagedOf-listed l = ⊎-elim (λ z. ap averagedOf (posesOf-listed l (omega arith))) more (eq-zero-or-pos (length l - maxPoses))
-  where
-    more : 0 < length l - maxPoses → averagedOf (posesOf (listed l)) ≡ averagedOf l
-    more h =
-        averagedOf-too-many (posesOf (listed l)) (omega (arith, length-posesOf (listed l)))
-        ∙ sym (averagedOf-too-many l (omega arith))

@@ -1,27 +1,21 @@
 -- The public averaging entry, by document 01, "Averaging": "It refuses an empty list with 1, more than 64 with 2, and a non-finite
 -- number with 7, detail being the lowest pose." Rests on the average of `average` and the table of `refusal`.
-use Prim.Native.Nat.{ℕ, _+_, _*_, _^_}
-use mathlib.Core.Bool.{Bool, not}
+use Prim.Native.Nat.{ℕ}
+use mathlib.Core.Path.{_≡_}
 use mathlib.Core.Option.{Option, none, some}
-use mathlib.Core.List.{List, [], _∷_, _++_}
-use lib.ListN.{length, getD, drop}
+use mathlib.Core.List.{List, [], _∷_}
+use lib.ListN.{length}
 use lib.Dec.{eqb, ltb}
-use lib.Ieee.{Float}
-use Rattle.arithmetic.specs.Pose.{finitePose, flat}
 use Rattle.average.specs.Average.{averageIsometries}
 use Rattle.arithmetic.specs.declared.pose.Pose.{Pose}
-use Rattle.refusal.specs.Table.{numberOf, detailOf, refuseIf, refuseAt, firstOf}
+use Rattle.refusal.specs.Table.{refuseIf, refuseAt, firstOf}
 use Rattle.refusal.specs.declared.Refusal.{Refusal}
 use Rattle.refusal.specs.declared.Refusal.the-variants.{InsufficientData, TooMany, NotFinite}
-use Rattle.inputs.specs.Finding.{lowest}
-use Rattle.extrinsics.specs.Placed.{nowhere}
-use Rattle.averaging.specs.Listed.{maxPoses}
+use Rattle.lists.specs.Finding.{lowest}
+use Rattle.averaging.specs.Gathered.{maxPoses, isNotFinite, gathered}
+use Rattle.averaging.specs.declared.list.Gathered.{Gathered}
 use Rattle.averaging.specs.declared.Averaged.{Averaged}
 use Rattle.averaging.specs.declared.Averaged.the-variants.{Refused, Mean}
-
--- Pose i of the list holds a number that is not finite.
-abbrev pub isNotFinite : List Pose → ℕ → Bool
-isNotFinite l i = not (finitePose (getD l i nowhere))
 
 unfoldable pub lowestNotFinite : List Pose → Option ℕ
 unfolding lowest
@@ -46,14 +40,6 @@ unfoldable pub averagedOf : List Pose → Averaged
 unfolding averageRefusal averagedBy averageIsometries
 averagedOf l = averagedBy (averageRefusal l) (averageIsometries l)
 
--- ---- the answer as a word and seven floats, for callers in C
-
--- 0 for a mean, and for a refusal its number times 2 to the 32, plus its detail.
-unfoldable pub answerWord : Averaged → ℕ
-answerWord (Refused r) = numberOf r * 2 ^ 32 + detailOf r
-answerWord (Mean p) = 0
-
--- What the lent floats are afterwards: a refusal writes nothing.
-unfoldable pub answerFloats : Averaged → List Float → List Float
-answerFloats (Refused r) old = old
-answerFloats (Mean p) old = flat p ++ drop 7 old
+-- The answer, by what was gathered of a list: it is that of the list.
+abbrev pub AnswersFor : Gathered → Averaged → Type 0
+AnswersFor g o = (l : List Pose) → g ≡ gathered l → o ≡ averagedOf l

@@ -1,19 +1,13 @@
 // The public averaging entry: the average of a lent list of pose records, or why there is none.
-ghost use Prim.Native.Nat.{_≤_};
 ghost use mathlib.Core.Path.{_≡_};
-ghost use Rattle.average.specs.Average.{averageIsometries};
-ghost use Rattle.inputs.specs.Finding.{foundOf};
-ghost use Rattle.averaging.specs.Listed.{maxPoses, posesOf};
-ghost use Rattle.averaging.specs.Entry.{lowestNotFinite, averagedOf};
+ghost use Rattle.averaging.specs.Entry.{averagedOf, AnswersFor};
 
-pub mod export;
 pub mod list;
 
-use crate::list::PoseList;
+use crate::list::Gathered;
+use crate::list::MOST_POSES;
 use crate::list::read_poses;
 use arithmetic::pose::Pose;
-use average::Average;
-use average::MOST_POSES;
 use inputs::Found;
 use refusal::Refusal;
 
@@ -23,43 +17,9 @@ pub enum Averaged {
     Mean(Pose),
 }
 
-// The lowest pose that holds a number that is not finite.
-fn find_not_finite(list: PoseList) -> Found
-    requires { ⌜ list .count ≤ maxPoses ⌝ }
-    ensures { λ r. ⌜ r ≡ foundOf (lowestNotFinite (posesOf list)) ⌝ }
-{
-    let count = list.count;
-    let mut i = 0;
-    while i < count {
-        let p = list.poses[i];
-        if !p.is_finite() {
-            let lowest = i as u32;
-            return Found::At(lowest);
-        }
-        i += 1;
-    }
-    Found::Nothing
-}
-
-// The average of poses that no check turned away.
-fn mean_of(list: PoseList) -> Pose
-    requires { ⌜ list .count ≤ maxPoses ⌝ }
-    ensures { λ r. ⌜ r ≡ averageIsometries (posesOf list) ⌝ }
-{
-    let count = list.count;
-    let mut sum = Average::new();
-    let mut i = 0;
-    while i < count {
-        let p = list.poses[i];
-        sum = sum.add(p);
-        i += 1;
-    }
-    sum.mean()
-}
-
-// The average of a list that was read.
-pub fn average_list(list: PoseList) -> Averaged
-    ensures { λ r. ⌜ r ≡ averagedOf (posesOf list) ⌝ }
+// The average of a list, by what was gathered of it.
+pub fn average_list(list: Gathered) -> Averaged
+    ensures { λ r. ⌜ AnswersFor list r ⌝ }
 {
     let count = list.count;
     if count == 0 {
@@ -68,9 +28,10 @@ pub fn average_list(list: PoseList) -> Averaged
     if MOST_POSES < count {
         return Averaged::Refused(Refusal::TooMany);
     }
-    match find_not_finite(list) {
+    let bad = list.bad;
+    match bad {
         Found::At(i) => Averaged::Refused(Refusal::NotFinite(i)),
-        Found::Nothing => Averaged::Mean(mean_of(list)),
+        Found::Nothing => Averaged::Mean(list.sum.mean()),
     }
 }
 

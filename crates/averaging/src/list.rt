@@ -1,25 +1,28 @@
-// A lent list of pose records, read into one record by value: the first 64 poses, and how many there are.
-// Only `read_poses` walks the lent list; whatever is done with its poses is done on the record.
+// What is gathered of a lent list of pose records, in one record by value: the sums of the first 64 poses, the lowest of them that holds a
+// number that is not finite, and how many poses there are. Only `read_poses` walks the lent list.
 ghost use Prim.Native.Nat.{_<_, min};
 ghost use mathlib.Core.Path.{_≡_};
-ghost use lib.ListN.{set, replicate};
-ghost use Rattle.arithmetic.specs.Pose.{identityPose};
-ghost use Rattle.averaging.specs.Listed.{maxPoses, poseList, listed};
+ghost use Rattle.averaging.specs.Gathered.{maxPoses, gathered, unreadOf, marked, withPose};
 use arithmetic::pose::Pose;
-use average::MOST_POSES;
+use average::Average;
+use inputs::Found;
 
-pub struct PoseList {
-    pub poses: [Pose; MOST_POSES],
+// The most poses that one average takes: one for each view of a rig.
+pub const MOST_POSES: usize = 64;
+
+pub struct Gathered {
+    pub sum: Average,
+    pub bad: Found,
     pub count: usize,
 }
 
-// A list of that many poses, none of them read yet.
-fn unread(count: usize) -> PoseList
-    ensures { λ r. ⌜ r ≡ poseList (replicate maxPoses identityPose) count ⌝ }
+// Of so many poses none is read yet.
+fn unread(count: usize) -> Gathered
+    ensures { λ r. ⌜ r ≡ unreadOf count ⌝ }
 {
-    let nothing = Pose::identity();
-    PoseList {
-        poses: [nothing; MOST_POSES],
+    Gathered {
+        sum: Average::new(),
+        bad: Found::Nothing,
         count: count,
     }
 }
@@ -35,22 +38,37 @@ fn kept(count: usize) -> usize
     }
 }
 
-// The list with p at place i.
-fn put(list: PoseList, i: usize, p: Pose) -> PoseList
+// The lowest that holds a number that is not finite, when p in place i is looked at too.
+fn mark(bad: Found, i: usize, p: Pose) -> Found
     requires { ⌜ i < maxPoses ⌝ }
-    ensures { λ r. ⌜ r ≡ poseList (set (list .poses) i p) (list .count) ⌝ }
+    ensures { λ r. ⌜ r ≡ marked bad i p ⌝ }
 {
-    let mut poses = list.poses;
-    poses[i] = p;
-    PoseList {
-        poses: poses,
+    match bad {
+        Found::At(lower) => Found::At(lower),
+        Found::Nothing => if p.is_finite() {
+            Found::Nothing
+        } else {
+            Found::At(i as u32)
+        },
+    }
+}
+
+// One pose more, in place i.
+fn put(list: Gathered, i: usize, p: Pose) -> Gathered
+    requires { ⌜ i < maxPoses ⌝ }
+    ensures { λ r. ⌜ r ≡ withPose list i p ⌝ }
+{
+    let bad = list.bad;
+    Gathered {
+        sum: list.sum.add(p),
+        bad: mark(bad, i, p),
         count: list.count,
     }
 }
 
-// The first 64 of the lent poses, and how many were lent.
-pub fn read_poses(poses: &[Pose]) -> PoseList
-    ensures { λ r. ⌜ r ≡ listed (now (poses .entry)) ⌝ }
+// What is gathered of the lent poses.
+pub fn read_poses(poses: &[Pose]) -> Gathered
+    ensures { λ r. ⌜ r ≡ gathered (now (poses .entry)) ⌝ }
 {
     let count = poses.len();
     let n = kept(count);

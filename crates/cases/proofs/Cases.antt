@@ -14,12 +14,15 @@ use Rattle.average.specs.Average.{averageIsometries}
 use Rattle.root.specs.Root.{rootOf}
 use Rattle.cases.specs.ArithmeticCases.{allComputed, allSaid}
 use Rattle.cases.proofs.ArithmeticCases.{arithmetic-rows-hold}
-use Rattle.chains.specs.Shared.{count, shared}
-use Rattle.chains.specs.Masks.{inMask, viewsOfBoth, sharedBy}
-use Rattle.chains.specs.Layers.{Spot, placed, isPlaced, parentOf, linksOf, spotAt, inLayer, tabulate, takeIfMore, mostViews, startSpot, nextSpot, linkedInLayer, parentInLayer, layersTo, layers}
+use Rattle.limits.specs.Limits.{oneView}
+use Rattle.lists.specs.Finding.{count, powerSum}
+use Rattle.chains.specs.Shared.{shared}
+use Rattle.lists.specs.Masks.{inMask}
+use Rattle.chains.specs.Masks.{viewsOfBoth, sharedBy}
+use Rattle.chains.specs.Layers.{Spot, placed, isPlaced, parentOf, linksOf, spotAt, inLayer, takeIfMore, mostViews, startSpot, nextSpot, linkedInLayer, parentInLayer, layersTo, layers}
+use Rattle.lists.specs.Lists.{tabulate, gather}
 use Rattle.extrinsics.specs.Grid.{Grid, isHeld, spots}
-use Rattle.extrinsics.specs.Estimate.{gather, chains}
-use Rattle.inputs.specs.Finding.{powerSum}
+use Rattle.extrinsics.specs.Estimate.{chains}
 use Rattle.extrinsics.specs.Outcome.{lowestNotFinite, unreachedSet, lowestEmptyView, gridRefusal}
 use Rattle.extrinsics.specs.Rig.{Fitting}
 use Rattle.inputs.specs.Inputs.{inputRefusal, maskOf}
@@ -67,7 +70,7 @@ fitting : Fitting (denseRig masksOfP9 43 4 0) floatsOfP9
 unfolding viewsOfP9 identities
 fitting = fitting-denseRig (viewAfterView viewsOfP9) masksOfP9 floatsOfP9 43 4 0 masks-made (omega arith) (omega arith) (omega arith) refl
 
-layers-P9 : layers 4 (sharedBy masksOfP9) 0 ≡ spotsOfP9
+layers-P9 : layers 4 (sharedBy masksOfP9) oneView 0 ≡ spotsOfP9
 unfolding layers layersTo tabulate startSpot nextSpot parentInLayer linkedInLayer inLayer mostViews takeIfMore sharedBy viewsOfBoth inMask count
 layers-P9 = refl
 

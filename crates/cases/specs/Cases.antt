@@ -1,19 +1,21 @@
 -- The rows P1 to P9 of document 01's bench table, and with the rows of `ArithmeticCases` the whole table: what the definitions compute
 -- beside what the paper says, as whole numbers; and a second table, `refusalRows`, of the refusals' bounds and order. A double is its bits.
 -- Rests on the direct call of `extrinsics`.
-use Prim.Native.Nat.{ℕ, _+_, _*_}
+use Prim.Native.Nat.{ℕ}
 use mathlib.Core.Option.{Option, none, some}
 use mathlib.Core.List.{List, [], _∷_, _++_, map}
 use lib.ListN.{length, replicate}
 use lib.Ieee.{Float, binary64, ofBits}
 use Rattle.arithmetic.specs.Double.{Zero, One}
 use Rattle.arithmetic.specs.Pose.{identityPose, flat, poseAt}
-use Rattle.cases.specs.ArithmeticCases.{Row, row, bits, arithmeticRows}
+use Rattle.arithmetic.specs.Rows.{Row, row, bits}
+use Rattle.cases.specs.ArithmeticCases.{arithmeticRows}
 use Rattle.refusal.specs.Table.{numberOf, detailOf}
 use Rattle.refusal.specs.declared.Refusal.{Refusal}
-use Rattle.chains.specs.Limits.{maxViews, maxCameras}
+use Rattle.limits.specs.Limits.{maxViews, maxCameras, firstNeeds, secondNeeds}
 use Rattle.extrinsics.specs.Grid.{Grid}
-use Rattle.extrinsics.specs.Estimate.{gather, transforms, chains}
+use Rattle.lists.specs.Lists.{gather}
+use Rattle.extrinsics.specs.Estimate.{transforms, chains}
 use Rattle.extrinsics.specs.Direct.{directGrid, directRefusal}
 use Rattle.demands.specs.Demand3.{reportedParent, reportedLinks}
 
@@ -24,10 +26,10 @@ told (some r) = numberOf r ∷ detailOf r ∷ []
 
 -- Answers with room for every rig.
 abbrev firstRoom : ℕ
-firstRoom = 7 * (maxCameras + maxViews)
+firstRoom = firstNeeds maxCameras maxViews
 
 abbrev secondRoom : ℕ
-secondRoom = 2 * maxCameras
+secondRoom = secondNeeds maxCameras
 
 -- ---- calls, told by their views: a mark for each camera of a view
 

@@ -13,10 +13,12 @@ use lib.Dec.{eqb}
 use lib.Bits.{bitAnd, and-step, and-shr, and-le-l}
 use lib.Count.{ones, ones-cat}
 use lib.Pow.{mod-pow-add, pow-pos}
-use Rattle.chains.specs.Limits.{maxViews}
-use Rattle.chains.specs.Shared.{count, shared}
-use Rattle.chains.specs.Masks.{inMask, viewsOfBoth, sharedBy}
-use Rattle.chains.proofs.Counting.{count-le, count-agree}
+use Rattle.limits.specs.Limits.{maxViews}
+use Rattle.lists.specs.Finding.{count}
+use Rattle.chains.specs.Shared.{shared}
+use Rattle.lists.specs.Masks.{inMask}
+use Rattle.chains.specs.Masks.{viewsOfBoth, sharedBy}
+use Rattle.lists.proofs.Counting.{count-le, count-agree}
 
 -- ---- one bit
 

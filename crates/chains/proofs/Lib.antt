@@ -1,6 +1,4 @@
 -- The chain theorem and the laws it rests on, beside the proofs of the functions. Assumes nothing.
-pub mod Counting
-pub mod Tabulated
 pub mod MostViews
 pub mod Placing
 pub mod Walks

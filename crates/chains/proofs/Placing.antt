@@ -11,12 +11,12 @@ use mathlib.Core.Bool.{Bool, true, false, cond, not, _&&_, true≢false}
 use mathlib.Core.Option.{Option, none, some}
 use lib.ListN.{length}
 use lib.Seq.{ext-getD}
-use lib.Dec.{T, ltb, eqb, eqb→eq, ltb→lt}
-use borrow.Author.Tests.{eq-eqb, ne-eqb, eqb-true, eqb-false, lt-ltb}
-use Rattle.chains.specs.Shared.{count}
+use lib.Dec.{T, leb, eqb, eqb→eq, leb→le}
+use borrow.Author.Tests.{eq-eqb, ne-eqb, eqb-true, eqb-false, le-leb}
+use Rattle.lists.specs.Finding.{count}
 use Rattle.chains.specs.Layers.{Spot, notPlaced, placed, isPlaced, parentOf, linksOf, inLayer, spotAt, startSpot, nextSpot, linkedInLayer, parentInLayer, layersTo}
-use Rattle.chains.proofs.Counting.{count-le, count-more, count-some}
-use Rattle.chains.proofs.Tabulated.{length-tabulate, getD-tabulate, getD-tabulate-past}
+use Rattle.lists.proofs.Counting.{count-le, count-more, count-some}
+use Rattle.lists.proofs.Tabulated.{length-tabulate, getD-tabulate, getD-tabulate-past}
 use Rattle.chains.proofs.MostViews.{Beats, MostOf, Found, mostViews-found}
 
 -- ---- tests of one spot
@@ -54,30 +54,30 @@ placed-not-notPlaced s p d e f = let z : _≡_ {A = ℕ} 0 1 = cc in omega arith
 
 -- ---- what `linkedInLayer` tests
 
-module _ (w : ℕ → ℕ → ℕ) (spots : ℕ → Spot) (k c p : ℕ) where
-  pub linkedInLayer-parts : T (linkedInLayer w spots k c p) → ((q : ℕ) × (spots p ≡ placed q k)) × (c ≢ p) × (0 < w c p)
+module _ (w : ℕ → ℕ → ℕ) (least : ℕ) (spots : ℕ → Spot) (k c p : ℕ) where
+  pub linkedInLayer-parts : T (linkedInLayer w least spots k c p) → ((q : ℕ) × (spots p ≡ placed q k)) × (c ≢ p) × (least ≤ w c p)
   unfolding linkedInLayer
   linkedInLayer-parts h = go (inLayer k (spots p)) refl (eqb c p) refl h
     where
-      go : (a : Bool) → inLayer k (spots p) ≡ a → (b : Bool) → eqb c p ≡ b → T (a && (not b && ltb 0 (w c p)))
-          → ((q : ℕ) × (spots p ≡ placed q k)) × (c ≢ p) × (0 < w c p)
+      go : (a : Bool) → inLayer k (spots p) ≡ a → (b : Bool) → eqb c p ≡ b → T (a && (not b && leb least (w c p)))
+          → ((q : ℕ) × (spots p ≡ placed q k)) × (c ≢ p) × (least ≤ w c p)
       go false ea false eb t = absurd t
       go false ea true eb t = absurd t
       go true ea true eb t = absurd t
-      go true ea false eb t = (inLayer-placed k (spots p) (subst T (sym ea) tt), eqb-false c p eb, ltb→lt 0 (w c p) t)
+      go true ea false eb t = (inLayer-placed k (spots p) (subst T (sym ea) tt), eqb-false c p eb, leb→le least (w c p) t)
 
-  pub parts-linkedInLayer : (q : ℕ) → spots p ≡ placed q k → c ≢ p → 0 < w c p → T (linkedInLayer w spots k c p)
+  pub parts-linkedInLayer : (q : ℕ) → spots p ≡ placed q k → c ≢ p → least ≤ w c p → T (linkedInLayer w least spots k c p)
   unfolding linkedInLayer
-  parts-linkedInLayer q e n l = rw (placed-inLayer k q (spots p) e, ne-eqb c p n, lt-ltb 0 (w c p) l) tt
+  parts-linkedInLayer q e n l = rw (placed-inLayer k q (spots p) e, ne-eqb c p n, le-leb least (w c p) l) tt
 
-module _ (cameras : ℕ) (w : ℕ → ℕ → ℕ) (reference : ℕ) where
+module _ (cameras : ℕ) (w : ℕ → ℕ → ℕ) (least reference : ℕ) where
   -- The spot of camera c once layers 0 to k are placed.
   abbrev pub spot : ℕ → ℕ → Spot
-  spot k c = spotAt (layersTo cameras w reference k) c
+  spot k c = spotAt (layersTo cameras w least reference k) c
 
   -- The parent that layer k offers camera c.
   abbrev pub offer : ℕ → ℕ → Option ℕ
-  offer k c = parentInLayer cameras w (spot k) k c
+  offer k c = parentInLayer cameras w least (spot k) k c
 
   -- ---- one layer
 
@@ -94,7 +94,7 @@ module _ (cameras : ℕ) (w : ℕ → ℕ → ℕ) (reference : ℕ) where
   spot-outside zero c h = getD-tabulate-past cameras (startSpot reference) notPlaced c h
   spot-outside (suc k) c h = getD-tabulate-past cameras (λ i. nextSpot k (spot k i) (offer k i)) notPlaced c h
 
-  pub length-layersTo : (k : ℕ) → length (layersTo cameras w reference k) ≡ cameras
+  pub length-layersTo : (k : ℕ) → length (layersTo cameras w least reference k) ≡ cameras
   unfolding layersTo
   length-layersTo zero = length-tabulate cameras (startSpot reference)
   length-layersTo (suc k) = length-tabulate cameras (λ i. nextSpot k (spot k i) (offer k i))
@@ -103,33 +103,33 @@ module _ (cameras : ℕ) (w : ℕ → ℕ → ℕ) (reference : ℕ) where
   unfolding startSpot
   spot-reference h = spot-zero reference h ∙ rw (eq-eqb reference reference refl)
 
-  -- What makes p an offer to c: it is in layer k, another camera, shares a view with c, and no other such camera beats it.
+  -- What makes p an offer to c: it is in layer k, another camera, shares enough views with c, and no other such camera beats it.
   pub record Offered (k c p : ℕ) : Type 0 where
     pub inside : p < cameras
     pub in-layer : (q : ℕ) × (spot k p ≡ placed q k)
     pub different : c ≢ p
-    pub shares : 0 < w c p
-    pub beats : (q r : ℕ) → q < cameras → spot k q ≡ placed r k → c ≢ q → 0 < w c q → Beats (w c) p q
+    pub shares : least ≤ w c p
+    pub beats : (q r : ℕ) → q < cameras → spot k q ≡ placed r k → c ≢ q → least ≤ w c q → Beats (w c) p q
 
   pub offer-some : (k c p : ℕ) → offer k c ≡ some p → Offered k c p
   unfolding parentInLayer
   offer-some k c p e =
-      let m : MostOf (linkedInLayer w (spot k) k c) (w c) cameras p =
-      subst (Found (linkedInLayer w (spot k) k c) (w c) cameras) e (mostViews-found (linkedInLayer w (spot k) k c) (w c) cameras) in
-      let t = linkedInLayer-parts w (spot k) k c p (m .passes) in
+      let m : MostOf (linkedInLayer w least (spot k) k c) (w c) cameras p =
+      subst (Found (linkedInLayer w least (spot k) k c) (w c) cameras) e (mostViews-found (linkedInLayer w least (spot k) k c) (w c) cameras) in
+      let t = linkedInLayer-parts w least (spot k) k c p (m .passes) in
       record {
         inside = m .below;
         in-layer = t .0;
         different = t .1;
         shares = t .2;
-        beats = λ q r h f n l. m .beats q h (parts-linkedInLayer w (spot k) k c q r f n l);
+        beats = λ q r h f n l. m .beats q h (parts-linkedInLayer w least (spot k) k c q r f n l);
       }
 
-  pub offer-none : (k c : ℕ) → offer k c ≡ none → (p q : ℕ) → p < cameras → spot k p ≡ placed q k → c ≢ p → 0 < w c p → ⊥
+  pub offer-none : (k c : ℕ) → offer k c ≡ none → (p q : ℕ) → p < cameras → spot k p ≡ placed q k → c ≢ p → least ≤ w c p → ⊥
   unfolding parentInLayer
   offer-none k c e p q h f n l =
-      subst (Found (linkedInLayer w (spot k) k c) (w c) cameras) e (mostViews-found (linkedInLayer w (spot k) k c) (w c) cameras)
-      p h (parts-linkedInLayer w (spot k) k c p q f n l)
+      subst (Found (linkedInLayer w least (spot k) k c) (w c) cameras) e (mostViews-found (linkedInLayer w least (spot k) k c) (w c) cameras)
+      p h (parts-linkedInLayer w least (spot k) k c p q f n l)
 
   -- ---- what is placed stays
 
@@ -244,15 +244,15 @@ module _ (cameras : ℕ) (w : ℕ → ℕ → ℕ) (reference : ℕ) where
           let o = offer-some n c p f in
           absurd (true≢false (sym (placed-inLayer n (o .in-layer .0) (spot n p) (o .in-layer .1)) ∙ empty p (o .inside)))
 
-  layersTo-unchanged : (n : ℕ) → ((c : ℕ) → c < cameras → ofLayer n c ≡ false) → layersTo cameras w reference (suc n) ≡ layersTo cameras w reference n
+  layersTo-unchanged : (n : ℕ) → ((c : ℕ) → c < cameras → ofLayer n c ≡ false) → layersTo cameras w least reference (suc n) ≡ layersTo cameras w least reference n
   layersTo-unchanged n empty =
-      ext-getD notPlaced (layersTo cameras w reference (suc n)) (layersTo cameras w reference n) (length-layersTo (suc n) ∙ sym (length-layersTo n))
+      ext-getD notPlaced (layersTo cameras w least reference (suc n)) (layersTo cameras w least reference n) (length-layersTo (suc n) ∙ sym (length-layersTo n))
       (λ c h. spot-unchanged n empty c (omega (arith, length-layersTo (suc n))))
 
   -- So an empty layer is the last.
   pub layersTo-stays : (n : ℕ) → ((c : ℕ) → c < cameras → ofLayer n c ≡ false)
-      → (k : ℕ) → n ≤ k → layersTo cameras w reference k ≡ layersTo cameras w reference n
+      → (k : ℕ) → n ≤ k → layersTo cameras w least reference k ≡ layersTo cameras w least reference n
   layersTo-stays n empty k h = le-ind
-      (λ (i : ℕ). (layersTo cameras w reference i ≡ layersTo cameras w reference n) × ((c : ℕ) → c < cameras → ofLayer i c ≡ false))
+      (λ (i : ℕ). (layersTo cameras w least reference i ≡ layersTo cameras w least reference n) × ((c : ℕ) → c < cameras → ofLayer i c ≡ false))
       (refl, empty)
       (λ i l r. (layersTo-unchanged i (r .1) ∙ r .0, λ c m. kept-not-ofLayer i c m (spot-unchanged i (r .1) c m))) k h .0

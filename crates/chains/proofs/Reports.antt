@@ -13,9 +13,9 @@ use Rattle.chains.specs.Layered.{Layered}
 use Rattle.chains.proofs.Walks.{read-reference, read-parent}
 
 -- "naming precisely the cameras without a chain"
-pub no-place-no-chain : {cameras : ℕ} {w : ℕ → ℕ → ℕ} {reference : ℕ} {hasPlace : ℕ → Bool} {parent linkCount : ℕ → ℕ}
-    → Layered cameras w reference hasPlace parent linkCount
-    → (c : ℕ) → c < cameras → (hasPlace c ≡ false) ↔ ((l : List ℕ) → Chain cameras w reference c l → ⊥)
+pub no-place-no-chain : {cameras : ℕ} {w : ℕ → ℕ → ℕ} {least reference : ℕ} {hasPlace : ℕ → Bool} {parent linkCount : ℕ → ℕ}
+    → Layered cameras w least reference hasPlace parent linkCount
+    → (c : ℕ) → c < cameras → (hasPlace c ≡ false) ↔ ((l : List ℕ) → Chain cameras w least reference c l → ⊥)
 no-place-no-chain {hasPlace = hasPlace} right c h =
     let both = right .placed-with-chain c h in
     (λ e l s. subst T e (both .1 (l, s)), λ none. go (hasPlace c) (λ t. none (both .0 t .0) (both .0 t .1)))
@@ -24,9 +24,9 @@ no-place-no-chain {hasPlace = hasPlace} right c h =
     go true n = absurd (n tt)
     go false n = refl
 
-module _ (cameras : ℕ) (w : ℕ → ℕ → ℕ) (reference : ℕ) (inside : reference < cameras)
+module _ (cameras : ℕ) (w : ℕ → ℕ → ℕ) (least reference : ℕ) (inside : reference < cameras)
     (hasPlace hasPlace′ : ℕ → Bool) (parent parent′ linkCount linkCount′ : ℕ → ℕ)
-    (right : Layered cameras w reference hasPlace parent linkCount)
+    (right : Layered cameras w least reference hasPlace parent linkCount)
     (same-place : (c : ℕ) → c < cameras → hasPlace c ≡ hasPlace′ c)
     (same-parent : (c : ℕ) → c < cameras → T (hasPlace c) → parent c ≡ parent′ c)
     (same-links : (c : ℕ) → c < cameras → T (hasPlace c) → linkCount c ≡ linkCount′ c) where
@@ -51,7 +51,7 @@ module _ (cameras : ℕ) (w : ℕ → ℕ → ℕ) (reference : ℕ) (inside : r
   had : (c : ℕ) → c < cameras → T (hasPlace′ c) → T (hasPlace c)
   had c h t = rw (same-place c h) t
 
-  pub layered-report : Layered cameras w reference hasPlace′ parent′ linkCount′
+  pub layered-report : Layered cameras w least reference hasPlace′ parent′ linkCount′
   layered-report = record {
     placed-with-chain = λ c h. rw (← same-place c h) (right .placed-with-chain c h);
     reported = λ c h t. rw (← reportedChain-agree c h (had c h t)) (right .reported c h (had c h t));

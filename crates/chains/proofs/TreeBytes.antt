@@ -1,22 +1,15 @@
 -- What the bytes of a tree say of the spots that it was made from. Assumes nothing.
 use Prim.Native.Nat.{ℕ, _<_}
-use native.Mathlib.Omega.{arith}
 use mathlib.Core.Path.{_≡_, refl}
 use mathlib.Core.List.{List}
 use lib.ListN.{getD}
 use lib.Dec.{T}
-use Rattle.chains.specs.Limits.{maxCameras, notPlacedByte}
+use Rattle.limits.specs.Limits.{maxCameras}
 use Rattle.chains.specs.Layers.{Spot, notPlaced, placed, isPlaced, parentOf, linksOf, spotAt}
 use Rattle.chains.specs.Trees.{parentByte, linksByte, treeOf}
-use Rattle.chains.proofs.Tabulated.{getD-tabulate}
+use Rattle.lists.proofs.Tabulated.{getD-tabulate}
 
 -- ---- the bytes of one spot
-
--- A byte of links below that of no place is a placed spot's.
-pub linksByte-isPlaced : (s : Spot) → linksByte s < notPlacedByte → T (isPlaced s)
-unfolding linksByte isPlaced
-linksByte-isPlaced notPlaced h = omega arith
-linksByte-isPlaced (placed p d) h = tt
 
 pub linksByte-linksOf : (s : Spot) → T (isPlaced s) → linksByte s ≡ linksOf s
 unfolding linksByte isPlaced linksOf

@@ -12,14 +12,15 @@ use lib.Dec.{eqb}
 unfoldable pub links : List ℕ → ℕ
 links l = length l - 1
 
--- The rig has the cameras below `cameras`, and `w a b` is the number of views that cameras a and b share.
-module _ (cameras : ℕ) (w : ℕ → ℕ → ℕ) where
-  -- "Cameras are linked if they share a view": two different cameras of the rig.
+-- The rig has the cameras below `cameras`, and `w a b` is the number of views that cameras a and b share; it takes `least` of them to link
+-- the two. Document 01 has one (`oneView`).
+module _ (cameras : ℕ) (w : ℕ → ℕ → ℕ) (least : ℕ) where
+  -- "Cameras are linked if they share a view", or at least `least`: two different cameras of the rig.
   pub record Linked (a b : ℕ) : Type 0 where
     pub first-inside : a < cameras
     pub second-inside : b < cameras
     pub different : a ≢ b
-    pub share-a-view : 0 < w a b
+    pub share-enough : least ≤ w a b
 
   module _ (reference : ℕ) where
     -- "A camera's chain is a list of cameras that starts with it, ends with the reference and has each linked to the next"
@@ -35,7 +36,7 @@ module _ (cameras : ℕ) (w : ℕ → ℕ → ℕ) where
     -- "the least number of links in its chains": some chain has m links, and none has fewer.
     pub record LeastLinks (c m : ℕ) : Type 0 where
       pub attained : (l : List ℕ) × Chain c l × (links l ≡ m)
-      pub least : (l : List ℕ) → Chain c l → m ≤ links l
+      pub none-fewer : (l : List ℕ) → Chain c l → m ≤ links l
 
     -- "One camera is one link nearer than another if the least number of links in its chains is one below the other's."
     abbrev pub OneNearer : ℕ → ℕ → Type 0

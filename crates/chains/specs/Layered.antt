@@ -7,24 +7,23 @@ use mathlib.Core.Bool.{Bool}
 use mathlib.Core.List.{List}
 use lib.Dec.{T}
 use Rattle.chains.specs.Chains.{Linked, Chain, HasChain, OneNearer, links, reportedChain}
-use Rattle.chains.specs.Layers.{Spot, isPlaced, parentOf, linksOf, spotAt}
 
--- `w c p` is the number of views that cameras c and p share; `hasPlace`, `parent` and `linkCount` are what is reported.
-pub record Layered (cameras : ℕ) (w : ℕ → ℕ → ℕ) (reference : ℕ) (hasPlace : ℕ → Bool) (parent linkCount : ℕ → ℕ) : Type 0 where
+-- `w c p` is the number of views that cameras c and p share, and it takes `least` of them to link the two; `hasPlace`, `parent` and `linkCount` are what is reported.
+pub record Layered (cameras : ℕ) (w : ℕ → ℕ → ℕ) (least reference : ℕ) (hasPlace : ℕ → Bool) (parent linkCount : ℕ → ℕ) : Type 0 where
   -- "exactly when every camera can be tied to the reference by a chain of cameras", camera by camera
-  pub placed-with-chain : (c : ℕ) → c < cameras → T (hasPlace c) ↔ HasChain cameras w reference c
+  pub placed-with-chain : (c : ℕ) → c < cameras → T (hasPlace c) ↔ HasChain cameras w least reference c
   -- "each camera's reported chain, followed parent by parent to the reference, is such a chain"
-  pub reported : (c : ℕ) → c < cameras → T (hasPlace c) → Chain cameras w reference c (reportedChain cameras reference parent c)
+  pub reported : (c : ℕ) → c < cameras → T (hasPlace c) → Chain cameras w least reference c (reportedChain cameras reference parent c)
   -- "its reported link count is the number of links in it"
   pub counted : (c : ℕ) → c < cameras → T (hasPlace c) → links (reportedChain cameras reference parent c) ≡ linkCount c
   -- "and every other chain of that camera has at least as many"
-  pub shortest : (c : ℕ) → c < cameras → T (hasPlace c) → (l : List ℕ) → Chain cameras w reference c l → linkCount c ≤ links l
+  pub shortest : (c : ℕ) → c < cameras → T (hasPlace c) → (l : List ℕ) → Chain cameras w least reference c l → linkCount c ≤ links l
   -- "For all but the reference, the parent is one link nearer than the camera"
-  pub nearer : (c : ℕ) → c < cameras → T (hasPlace c) → c ≢ reference → OneNearer cameras w reference (parent c) c
-  pub linked-to-parent : (c : ℕ) → c < cameras → T (hasPlace c) → c ≢ reference → Linked cameras w c (parent c)
+  pub nearer : (c : ℕ) → c < cameras → T (hasPlace c) → c ≢ reference → OneNearer cameras w least reference (parent c) c
+  pub linked-to-parent : (c : ℕ) → c < cameras → T (hasPlace c) → c ≢ reference → Linked cameras w least c (parent c)
   -- "and every other camera one link nearer shares fewer views with the camera than the parent does, or as many and has a higher index"
   pub most-shared : (c : ℕ) → c < cameras → T (hasPlace c) → c ≢ reference
-      → (q : ℕ) → q < cameras → q ≢ parent c → OneNearer cameras w reference q c
+      → (q : ℕ) → q < cameras → q ≢ parent c → OneNearer cameras w least reference q c
       → (w c q < w c (parent c)) ⊎ ((w c q ≡ w c (parent c)) × (parent c < q))
   -- "The reference has itself as parent and 0 links."
   pub reference-placed : T (hasPlace reference)
@@ -35,8 +34,3 @@ pub record Layered (cameras : ℕ) (w : ℕ → ℕ → ℕ) (reference : ℕ) (
   pub parent-placed : (c : ℕ) → c < cameras → T (hasPlace c) → T (hasPlace (parent c))
   pub parent-links : (c : ℕ) → c < cameras → T (hasPlace c) → c ≢ reference → suc (linkCount (parent c)) ≡ linkCount c
   pub links-below : (c : ℕ) → c < cameras → T (hasPlace c) → linkCount c < cameras
-
--- The same of a list of spots.
-abbrev pub LayeredSpots : ℕ → (ℕ → ℕ → ℕ) → ℕ → List Spot → Type 0
-LayeredSpots cameras w reference spots =
-    Layered cameras w reference (λ c. isPlaced (spotAt spots c)) (λ c. parentOf (spotAt spots c)) (λ c. linksOf (spotAt spots c))

@@ -4,14 +4,10 @@
 use Prim.Native.Nat.{ℕ, zero, suc}
 use mathlib.Core.Bool.{Bool, true, false, cond, not, _&&_}
 use mathlib.Core.Option.{Option, none, some}
-use mathlib.Core.List.{List, [], _∷_, _++_}
+use mathlib.Core.List.{List}
 use lib.ListN.{getD}
-use lib.Dec.{eqb, ltb}
-
--- The list of f 0 to f (n - 1).
-unfoldable pub tabulate {ℓ} : {A : Type ℓ} → ℕ → (ℕ → A) → List A
-tabulate zero f = []
-tabulate (suc n) f = tabulate n f ++ (f n ∷ [])
+use lib.Dec.{eqb, ltb, leb}
+use Rattle.lists.specs.Lists.{tabulate}
 
 -- What is known of one camera: it is not placed, or it has a parent and a number of links. "Links equal the layer number."
 pub data Spot : Type 0 where
@@ -60,14 +56,15 @@ nextSpot n (placed p d) parent = placed p d
 nextSpot n notPlaced none = notPlaced
 nextSpot n notPlaced (some p) = placed p (suc n)
 
--- `w c p` is the number of views that cameras c and p share. Camera p is in layer n and linked to camera c.
-unfoldable pub linkedInLayer : (ℕ → ℕ → ℕ) → (ℕ → Spot) → ℕ → ℕ → ℕ → Bool
-linkedInLayer w spots n c p = inLayer n (spots p) && (not (eqb c p) && ltb 0 (w c p))
+-- `w c p` is the number of views that cameras c and p share; it takes `least` of them to link two cameras. Camera p is in layer n and linked
+-- to camera c.
+unfoldable pub linkedInLayer : (ℕ → ℕ → ℕ) → ℕ → (ℕ → Spot) → ℕ → ℕ → ℕ → Bool
+linkedInLayer w least spots n c p = inLayer n (spots p) && (not (eqb c p) && leb least (w c p))
 
-module _ (cameras : ℕ) (w : ℕ → ℕ → ℕ) where
+module _ (cameras : ℕ) (w : ℕ → ℕ → ℕ) (least : ℕ) where
   -- "the camera of layer n sharing most views with it, lowest index on ties"
   unfoldable pub parentInLayer : (ℕ → Spot) → ℕ → ℕ → Option ℕ
-  parentInLayer spots n c = mostViews (linkedInLayer w spots n c) (w c) cameras
+  parentInLayer spots n c = mostViews (linkedInLayer w least spots n c) (w c) cameras
 
   module _ (reference : ℕ) where
     -- The spots of all cameras once layers 0 to n are placed.

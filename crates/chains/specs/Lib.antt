@@ -1,6 +1,5 @@
 -- Chains of cameras: what a chain is, the layers around the reference, and what the code's functions promise. Definitions only; their laws are
 -- in proofs/.
-pub mod Limits
 pub mod Shared
 pub mod Chains
 pub mod Layers

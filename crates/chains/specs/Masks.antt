@@ -1,16 +1,12 @@
 -- Views as bits, by document 01: "bit v is set when view v holds a pose of that camera" and "The shared count is the number of ones in
 -- both masks taken together, bit by bit." Assumes nothing.
-use Prim.Native.Nat.{ℕ, _/_, _%_, _^_}
-use mathlib.Core.Bool.{Bool, _&&_}
+use Prim.Native.Nat.{ℕ}
+use mathlib.Core.Bool.{_&&_}
 use mathlib.Core.List.{List}
 use lib.ListN.{getD}
-use lib.Dec.{eqb}
-use Rattle.chains.specs.Limits.{maxViews}
-use Rattle.chains.specs.Shared.{count}
-
--- Bit v of the mask is set.
-unfoldable pub inMask : ℕ → ℕ → Bool
-inMask mask v = eqb (mask / 2 ^ v % 2) 1
+use Rattle.limits.specs.Limits.{maxViews}
+use Rattle.lists.specs.Finding.{count}
+use Rattle.lists.specs.Masks.{inMask}
 
 -- How many views are in both masks.
 unfoldable pub viewsOfBoth : ℕ → ℕ → ℕ

@@ -1,11 +1,10 @@
--- Spots as bytes: the tree of parents and links that code hands out, and how to read a spot from it. Assumes nothing.
+-- Spots as bytes: the tree of parents and links that code hands out, and how to read it. Assumes nothing.
 use Prim.Native.Nat.{ℕ}
-use mathlib.Core.Bool.{Bool, cond, not}
 use mathlib.Core.List.{List}
 use lib.ListN.{getD}
-use lib.Dec.{eqb}
-use Rattle.chains.specs.Limits.{maxCameras, notPlacedByte}
-use Rattle.chains.specs.Layers.{Spot, notPlaced, placed, spotAt, tabulate}
+use Rattle.limits.specs.Limits.{maxCameras, notPlacedByte}
+use Rattle.chains.specs.Layers.{Spot, notPlaced, placed, spotAt}
+use Rattle.lists.specs.Lists.{tabulate}
 use Rattle.chains.specs.declared.Tree.{Tree}
 
 -- The bytes for a camera's parent and links.
@@ -25,14 +24,8 @@ treeOf spots = record {
 }
 
 -- What a tree says of camera c.
-unfoldable pub hasPlace : Tree → ℕ → Bool
-hasPlace tree c = not (eqb (getD (tree .parent) c 0) notPlacedByte)
-
 unfoldable pub parentAt : Tree → ℕ → ℕ
 parentAt tree c = getD (tree .parent) c 0
 
 unfoldable pub linksAt : Tree → ℕ → ℕ
 linksAt tree c = getD (tree .links) c 0
-
-unfoldable pub spotIn : Tree → ℕ → Spot
-spotIn tree c = cond (hasPlace tree c) (placed (parentAt tree c) (linksAt tree c)) notPlaced

@@ -1,17 +1,15 @@
-// Layers of cameras around the reference, breadth first. Layer 0 is the reference. Each camera not yet placed that shares a view
+// Layers of cameras around the reference, breadth first. Layer 0 is the reference. Each camera not yet placed that shares `least` views
 // with a camera of layer n goes to layer n + 1, and its parent is the camera of layer n that it shares most views with, lowest
 // index on ties. Views are bits of 64-bit masks, one mask a camera. Assumes nothing.
 ghost use Prim.Native.Nat.{ℕ, _+_, _<_, _≤_};
 ghost use mathlib.Core.Path.{_≡_};
 ghost use lib.ListN.{getD};
-ghost use Rattle.chains.specs.Limits.{maxCameras};
+ghost use Rattle.limits.specs.Limits.{maxCameras};
 ghost use Rattle.chains.specs.Masks.{viewsOfBoth, sharedBy};
 ghost use Rattle.chains.specs.Layers.{layers};
 ghost use Rattle.chains.specs.Trees.{treeOf};
 ghost use Rattle.chains.specs.Search.{foundByte, firstMost, Usable, AtLayerZero, OneLayerMore};
-
-// As many cameras as a rig may have.
-pub const MAX_CAMERAS: usize = 16;
+use limits::MAX_CAMERAS;
 
 // Stands for the parent and for the links of a camera that is not placed.
 pub const NOT_PLACED: u8 = 255;
@@ -37,18 +35,19 @@ pub fn shared(a: u64, b: u64) -> u32
     u64::count_ones(a & b)
 }
 
-// The camera of the layer that shares most views with `camera`, the first of several; NOT_PLACED where none shares any.
+// The camera of the layer that shares most views with `camera`, the first of several; NOT_PLACED where none shares `least`.
 fn best_parent(
     masks: &[u64; MAX_CAMERAS],
     layer: &[u8; MAX_CAMERAS],
     size: usize,
     camera: usize,
+    least: u32,
 ) -> u8
-    requires { ⌜ (camera < maxCameras) × (size ≤ maxCameras) × ((i : ℕ) → i < size → getD (now layer) i 0 < maxCameras) ⌝ }
-    ensures { λ r. ⌜ r ≡ foundByte (firstMost (sharedBy (now (masks .entry)) camera) (now (layer .entry)) size) ⌝ }
+    requires { ⌜ (camera < maxCameras) × (1 ≤ least) × (size ≤ maxCameras) × ((i : ℕ) → i < size → getD (now layer) i 0 < maxCameras) ⌝ }
+    ensures { λ r. ⌜ r ≡ foundByte (firstMost least (sharedBy (now (masks .entry)) camera) (now (layer .entry)) size) ⌝ }
 {
     let mut parent = NOT_PLACED;
-    let mut most = 0u32;
+    let mut most = least - 1;
     let mut i = 0usize;
     while i < size {
         let candidate = layer[i];
@@ -84,10 +83,10 @@ fn start(reference: usize) -> Search
     }
 }
 
-// One layer more: each camera that is not placed and shares a view with the layer is placed under its best parent.
-fn next_layer(masks: &[u64; MAX_CAMERAS], cameras: usize, search: Search) -> Search
-    requires { ⌜ (cameras ≤ maxCameras) × Usable search ⌝ }
-    ensures { λ r. ⌜ OneLayerMore cameras (sharedBy (now (masks .entry))) search r ⌝ }
+// One layer more: each camera that is not placed and shares `least` views with one of the layer is placed under its best parent.
+fn next_layer(masks: &[u64; MAX_CAMERAS], cameras: usize, least: u32, search: Search) -> Search
+    requires { ⌜ (cameras ≤ maxCameras) × (1 ≤ least) × Usable search ⌝ }
+    ensures { λ r. ⌜ OneLayerMore cameras (sharedBy (now (masks .entry))) least search r ⌝ }
 {
     let layer = search.layer;
     let size = search.size;
@@ -100,7 +99,7 @@ fn next_layer(masks: &[u64; MAX_CAMERAS], cameras: usize, search: Search) -> Sea
     let mut camera = 0usize;
     while camera < cameras {
         if parent[camera] == NOT_PLACED {
-            let best = best_parent(masks, &layer, size, camera);
+            let best = best_parent(masks, &layer, size, camera, least);
             if best != NOT_PLACED {
                 parent[camera] = best;
                 links[camera] = number;
@@ -121,14 +120,19 @@ fn next_layer(masks: &[u64; MAX_CAMERAS], cameras: usize, search: Search) -> Sea
     }
 }
 
-// The parents and links of all cameras that can be tied to the reference by a chain of cameras, neighbours sharing a view.
-pub fn layer_cameras(masks: [u64; MAX_CAMERAS], cameras: usize, reference: usize) -> Tree
-    requires { ⌜ (cameras ≤ maxCameras) × (reference < cameras) ⌝ }
-    ensures { λ r. ⌜ r ≡ treeOf (layers cameras (sharedBy masks) reference) ⌝ }
+// The parents and links of all cameras that can be tied to the reference by a chain of cameras, neighbours sharing at least `least` views.
+pub fn layer_cameras(
+    masks: [u64; MAX_CAMERAS],
+    cameras: usize,
+    least: u32,
+    reference: usize,
+) -> Tree
+    requires { ⌜ (cameras ≤ maxCameras) × (1 ≤ least) × (reference < cameras) ⌝ }
+    ensures { λ r. ⌜ r ≡ treeOf (layers cameras (sharedBy masks) least reference) ⌝ }
 {
     let mut search = start(reference);
     while 0 < search.size {
-        search = next_layer(&masks, cameras, search);
+        search = next_layer(&masks, cameras, least, search);
     }
     let tree = search.tree;
     tree

@@ -1,5 +1,8 @@
--- Laws of tests, words and offered poses, beside the proofs of the functions. Assumes nothing.
+-- Laws of tests, words, offered poses, framing and decoding, beside the proofs of the functions. Assumes nothing.
 pub mod Tests
 pub mod Words
 pub mod Patterns
 pub mod OfferedPoses
+pub mod Framing
+pub mod Decoding
+pub mod Writing

@@ -1,7 +1,9 @@
 // What stands at an offset of a stream before its end.
 ghost use Prim.Native.Nat.{_<_};
+ghost use mathlib.Core.Path.{_≡_};
 ghost use lib.ListN.{length};
-ghost use Rattle.command.specs.Parts.{ParsedAs};
+ghost use Rattle.command.specs.Command.{widthOf};
+ghost use Rattle.command.specs.Parts.{widthOrZero, ParsedAs};
 
 // The bytes that begin commands.
 const SIZE_BYTE: u8 = 1;
@@ -26,27 +28,36 @@ pub enum Parsed {
     Unknown(u8),
 }
 
-// Solve is whole wherever it begins: it has no operands.
+// How many bytes the command takes that begins with this byte; 0 where none does.
+fn width_of(byte: u8) -> usize
+    ensures { λ r. ⌜ r ≡ widthOrZero (widthOf byte) ⌝ }
+{
+    match byte {
+        1 => SIZE_WIDTH,
+        2 => POSE_WIDTH,
+        3 => SOLVE_WIDTH,
+        _ => 0,
+    }
+}
+
+// The framing, by the width alone; then which command it is, by its first byte.
 pub fn parse(stream: &[u8], at: usize) -> Parsed
     requires { ⌜ at < length (now stream) ⌝ }
     ensures { λ r. ⌜ ParsedAs (now (stream .entry)) at r ⌝ }
 {
     let byte = stream[at];
-    let rest = stream.len() - at;
+    let width = width_of(byte);
+    if width == 0 {
+        return Parsed::Unknown(byte);
+    }
+    if stream.len() - at < width {
+        return Parsed::Broken;
+    }
     if byte == SIZE_BYTE {
-        if rest < SIZE_WIDTH {
-            return Parsed::Broken;
-        }
         return Parsed::Size;
     }
     if byte == POSE_BYTE {
-        if rest < POSE_WIDTH {
-            return Parsed::Broken;
-        }
         return Parsed::Place;
     }
-    if byte == SOLVE_BYTE {
-        return Parsed::Solve;
-    }
-    Parsed::Unknown(byte)
+    Parsed::Solve
 }

@@ -16,14 +16,14 @@ use Rattle.arithmetic.specs.declared.pose.Pose.{Pose}
 use Rattle.refusal.specs.Table.{refuseAt, orElse}
 use Rattle.refusal.specs.declared.Refusal.{Refusal}
 use Rattle.refusal.specs.declared.Refusal.the-variants.{InsufficientData, InvalidReference, CountDiffers}
-use Rattle.chains.specs.Layers.{tabulate}
+use Rattle.lists.specs.Lists.{tabulate}
 use Rattle.extrinsics.specs.Grid.{Grid}
 use Rattle.extrinsics.specs.Estimate.{rigSe3Target, transforms}
 use Rattle.extrinsics.specs.Outcome.{notFinite, lowestEmptyView, gridRefusal}
 use Rattle.inputs.specs.Inputs.{sizeRefusal, countRefusal, lengthRefusal, markRefusal, cellCount}
 use Rattle.extrinsics.specs.Direct.{directGrid, directRefusal}
 use Rattle.demands.specs.Rust.{noValidCameraPoses, numViews, numCameras, estimateExtrinsicsFromCamTargetPoses}
-use Rattle.demands.specs.Encoding.{EqualCounts, Encodes, WithinLimits, RoomEnough, refusalOf, Agrees}
+use Rattle.demands.specs.Encoding.{EqualCounts, Encodes, WithinLimits, RoomEnough, RoomWhereSized, refusalOf, Agrees}
 use Rattle.demands.proofs.SameGrid.{SameGrid}
 use Rattle.demands.proofs.PartialRigs.{rigFinal}
 use Rattle.demands.proofs.RustLayers.{whileLayer-final}
@@ -72,7 +72,7 @@ module _ (camSe3Target : List (List (Option Pose))) (g : Grid) (same : SameGrid 
 -- ---- 1 to 7
 
 module _ (camSe3Target : List (List (Option Pose))) (refCamIdx : ℕ) (counts marks : List ℕ) (floats : List Float) (firstRoom secondRoom : ℕ)
-    (encoded : Encodes camSe3Target counts marks floats) (limits : WithinLimits camSe3Target) (room : RoomEnough camSe3Target firstRoom secondRoom) where
+    (encoded : Encodes camSe3Target counts marks floats) (limits : WithinLimits camSe3Target) (room : RoomWhereSized camSe3Target refCamIdx firstRoom secondRoom) where
   abbrev g : Grid
   g = directGrid counts marks floats refCamIdx
 
@@ -104,13 +104,14 @@ module _ (camSe3Target : List (List (Option Pose))) (refCamIdx : ℕ) (counts ma
   unfolding orElse
   refused-counts r e f = refused-first ∙ ap₂ (λ (s c : Option Refusal). firstRefusal s c lengths (markRefusal (cellCount counts) marks) (gridRefusal g)) e f
 
-  refused-grid : sizes ≡ none → countRefusal counts ≡ none → EqualCounts camSe3Target → refused ≡ gridRefusal g
+  refused-grid : sizes ≡ none → countRefusal counts ≡ none → EqualCounts camSe3Target → RoomEnough camSe3Target firstRoom secondRoom
+      → refused ≡ gridRefusal g
   unfolding orElse
-  refused-grid e f equal =
+  refused-grid e f equal enough =
       refused-first
       ∙ ap₂ (λ (s c : Option Refusal). firstRefusal s c lengths (markRefusal (cellCount counts) marks) (gridRefusal g)) e f
       ∙ ap₂ (λ (l m : Option Refusal). firstRefusal none none l m (gridRefusal g))
-      (lengths-pass camSe3Target counts marks floats encoded equal firstRoom secondRoom room) (marks-pass camSe3Target counts marks floats encoded equal)
+      (lengths-pass camSe3Target counts marks floats encoded equal firstRoom secondRoom enough) (marks-pass camSe3Target counts marks floats encoded equal)
       ∙ orElse-none (gridRefusal g)
 
   -- The cases in the order of the checks.
@@ -173,7 +174,7 @@ module _ (camSe3Target : List (List (Option Pose))) (refCamIdx : ℕ) (counts ma
               rust-loop camSe3Target refCamIdx (ne-eqb (numViews camSe3Target) 0 some-view) (ne-eqb (numCameras camSe3Target) 0 some-camera)
                   (lt-leb (numCameras camSe3Target) refCamIdx inside) (rigFinal g) (checkCounts-otherCount camSe3Target ∙ rw e)
                   (whileLayer-final camSe3Target g same within),
-              refused-grid sizes-pass (countRefusal-otherCount camSe3Target counts marks floats encoded ∙ rw e) equal,
+              refused-grid sizes-pass (countRefusal-otherCount camSe3Target counts marks floats encoded ∙ rw e) equal (room inside equal),
             )
             (agrees-after-loop camSe3Target g same (notFinite-passes camSe3Target counts marks floats encoded equal refCamIdx limits))
 
@@ -201,7 +202,7 @@ module _ (camSe3Target : List (List (Option Pose))) (refCamIdx : ℕ) (counts ma
 pub agrees-with-rust : (camSe3Target : List (List (Option Pose))) (refCamIdx : ℕ)
     → (counts marks : List ℕ) (floats : List Float) → Encodes camSe3Target counts marks floats
     → WithinLimits camSe3Target
-    → (firstRoom secondRoom : ℕ) → RoomEnough camSe3Target firstRoom secondRoom
+    → (firstRoom secondRoom : ℕ) → RoomWhereSized camSe3Target refCamIdx firstRoom secondRoom
     → Agrees (estimateExtrinsicsFromCamTargetPoses camSe3Target refCamIdx)
     (directRefusal counts marks floats refCamIdx firstRoom secondRoom)
     (transforms (directGrid counts marks floats refCamIdx))

@@ -12,7 +12,7 @@ use lib.Dec.{eqb, ltb}
 use lib.Pow.{pow-pos}
 use borrow.Author.Tests.{eq-eqb, ne-eqb, le-ltb}
 use Rattle.chains.specs.Layers.{takeIfMore, mostViews}
-use Rattle.inputs.specs.Finding.{powerSum}
+use Rattle.lists.specs.Finding.{powerSum}
 use Rattle.demands.specs.RustStd.{isEmpty, range, filter, lesser, minBy}
 use Rattle.demands.specs.Rust.{keyBelow}
 use Rattle.demands.specs.Encoding.{powersOf}

@@ -11,7 +11,7 @@ use lib.Seq.{getD-append-add}
 use lib.Ieee.{Float, nan}
 use Rattle.arithmetic.specs.Pose.{poseAt, flat}
 use Rattle.arithmetic.specs.declared.pose.Pose.{Pose}
-use Rattle.extrinsics.specs.Estimate.{gather}
+use Rattle.lists.specs.Lists.{gather}
 use Rattle.extrinsics.proofs.Filling.{length-gather}
 
 module _ {A : Type 0} (f : ℕ → List A) (w : ℕ) (each : (i : ℕ) → length (f i) ≡ w) (d : A) where

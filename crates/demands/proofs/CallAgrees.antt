@@ -15,7 +15,7 @@ use Rattle.extrinsics.specs.Direct.{directGrid, directRefusal, Direct}
 use Rattle.extrinsics.specs.declared.Outcome.{Outcome}
 use Rattle.demands.specs.RustStd.{Result, ok, err, neither}
 use Rattle.demands.specs.Rust.{Error, ExtrinsicPoses, estimateExtrinsicsFromCamTargetPoses}
-use Rattle.demands.specs.Encoding.{Encodes, WithinLimits, RoomEnough, Agrees, CallAgrees}
+use Rattle.demands.specs.Encoding.{Encodes, WithinLimits, RoomWhereSized, Agrees, CallAgrees}
 use Rattle.demands.proofs.Agreement.{agrees-with-rust}
 
 module _ (refusal : Option Refusal) (g : Grid) (first : List Float) (second : List ℕ) (r : Outcome) (first′ : List Float) (second′ : List ℕ)
@@ -36,7 +36,7 @@ module _ (refusal : Option Refusal) (g : Grid) (first : List Float) (second : Li
 pub call-agrees-with-rust : (camSe3Target : List (List (Option Pose))) (refCamIdx : ℕ)
     → (counts marks : List ℕ) (floats : List Float) → Encodes camSe3Target counts marks floats
     → WithinLimits camSe3Target
-    → (first : List Float) (second : List ℕ) → RoomEnough camSe3Target (length first) (length second)
+    → (first : List Float) (second : List ℕ) → RoomWhereSized camSe3Target refCamIdx (length first) (length second)
     → (r : Outcome) (first′ : List Float) (second′ : List ℕ) → Direct counts marks floats refCamIdx first second r first′ second′
     → CallAgrees (estimateExtrinsicsFromCamTargetPoses camSe3Target refCamIdx) first second r first′ second′
 call-agrees-with-rust camSe3Target refCamIdx counts marks floats encoded limits first second room r first′ second′ call =

@@ -1,4 +1,4 @@
--- Demand 3, whole: whatever the direct call leaves, on every grid that passes the checks before 8, is what the demand asks (`demand-3`).
+-- Demand 3, whole: whatever the direct call leaves, on every well-formed grid, is what the demand asks (`demand-3`).
 -- The marks give the same layers as the grid (`spots-marked`), so the chain theorem speaks of the marks; what the answers hold is read
 -- back block by block; and one of three cases holds, from which every sentence follows. Assumes nothing.
 use Prim.Native.Nat.{ℕ, _*_, _≤_, _<_}
@@ -16,24 +16,26 @@ use Rattle.arithmetic.specs.Pose.{identityPose, mulPose}
 use Rattle.average.specs.Average.{averageIsometries}
 use Rattle.refusal.specs.declared.Refusal.{Refusal}
 use Rattle.refusal.specs.declared.Refusal.the-variants.{Unreached, EmptyView}
+use Rattle.limits.specs.Limits.{oneView}
 use Rattle.chains.specs.Layers.{spotAt, layers}
-use Rattle.chains.specs.Layered.{Layered, LayeredSpots}
+use Rattle.chains.specs.Layered.{Layered}
 use Rattle.extrinsics.specs.Grid.{Grid, sharedViews, spots, hasPlace, parent, linkCount}
 use Rattle.extrinsics.specs.Estimate.{rigSe3Cam, rigSe3Target, transforms, chains}
 use Rattle.extrinsics.specs.Outcome.{lowestNotFinite, notFinite, unreachedSet, isEmptyView, lowestEmptyView, gridRefusal, outcomeOf, answered}
 use Rattle.extrinsics.specs.Direct.{directGrid, directRefusal, Direct}
-use Rattle.demands.specs.Demand3.{PassesBefore8, markedShared, EveryViewHolds, Chained, EveryCameraChained, NamesUnchained, LowestEmptyView, reportedParent, reportedLinks, reportedCamera, reportedView, averagedLinkOver, targetsOver, SolvedRig, RefusedUnchained, RefusedEmpty, Demand3}
+use Rattle.demands.specs.Demand3.{WellFormed, markedShared, EveryViewHolds, Chained, EveryCameraChained, NamesUnchained, LowestEmptyView, reportedParent, reportedLinks, reportedCamera, reportedView, averagedLinkOver, targetsOver, SolvedRig, RefusedUnchained, RefusedEmpty, Demand3}
 use Rattle.extrinsics.specs.declared.Outcome.{Outcome}
 use Rattle.extrinsics.specs.declared.Outcome.the-variants.{Refused, Solved}
 use Rattle.inputs.proofs.Answering.{Sizes, refuseAt-nothing}
 use Rattle.chains.proofs.Placing.{isPlaced-parts, placed-isPlaced}
-use Rattle.chains.proofs.Theorem.{layered, layers-agree}
+use Rattle.chains.proofs.Theorem.{LayeredSpots, layered, layers-agree}
 use Rattle.chains.proofs.Reports.{layered-report}
 use Rattle.extrinsics.proofs.RigPoses.{rigSe3Cam-reference, rigSe3Cam-parent}
-use Rattle.inputs.proofs.Lowest.{lowest-passes, lowest-before, lowest-none-fails}
+use Rattle.lists.proofs.Lowest.{lowest-passes, lowest-before, lowest-none-fails}
 use Rattle.demands.proofs.Naming.{inMask-powerSum-iff, powerSum-inMask, powerSum-some}
 use Rattle.extrinsics.proofs.Solving.{refused-unreached, all-placed, refused-empty-view, not-refused}
 use Rattle.demands.proofs.ReadBack.{reportedParent-chains, reportedLinks-chains, reportedCamera-transforms, reportedView-transforms}
+use Rattle.demands.proofs.WellFormed.{PassesBefore8, passes-before-8}
 use Rattle.demands.proofs.MarkedViews.{sharedViews-marked, empty-holds-none, not-empty-holds, averagedLink-marked, targetCandidates-marked}
 use Rattle.extrinsics.proofs.DirectCall.{input-sizes, input-marks, direct-is-grid}
 
@@ -64,22 +66,22 @@ module _ (counts marks : List ℕ) (floats : List Float) (reference : ℕ) (firs
   finite = refuseAt-nothing _ _ (passes .passes-7)
 
   -- The marks give the grid's layers, and the chain theorem speaks of the marks.
-  spots-marked : spots grid ≡ layers cameras w reference
+  spots-marked : spots grid ≡ layers cameras w oneView reference
   unfolding spots directGrid
   spots-marked =
-      layers-agree cameras (sharedViews grid) w reference (λ a b h k n. sharedViews-marked counts marks floats reference small a b h k)
+      layers-agree cameras (sharedViews grid) w oneView reference (λ a b h k n. sharedViews-marked counts marks floats reference small a b h k)
 
-  by-marks : LayeredSpots cameras w reference (spots grid)
-  by-marks = subst (LayeredSpots cameras w reference) (sym spots-marked) (layered cameras w reference (sizes .reference-inside))
+  by-marks : LayeredSpots cameras w oneView reference (spots grid)
+  by-marks = subst (LayeredSpots cameras w oneView reference) (sym spots-marked) (layered cameras w oneView reference (sizes .reference-inside))
 
   -- ---- the cameras without a chain
 
-  unplaced-unchained : (c : ℕ) → c < cameras → T (not (hasPlace grid c)) ↔ (Chained marks cameras views reference c → ⊥)
+  pub unplaced-unchained : (c : ℕ) → c < cameras → T (not (hasPlace grid c)) ↔ (Chained marks cameras views reference c → ⊥)
   unplaced-unchained c h =
       let both = by-marks .placed-with-chain c h in
       (λ t s. T-not (hasPlace grid c) t (both .1 s), λ n. not-T (hasPlace grid c) (λ t. n (both .0 t)))
 
-  names-unchained : NamesUnchained marks cameras views reference (unreachedSet grid)
+  pub names-unchained : NamesUnchained marks cameras views reference (unreachedSet grid)
   unfolding unreachedSet directGrid
   names-unchained =
       let test : ℕ → Bool = λ c. not (hasPlace grid c) in
@@ -90,7 +92,7 @@ module _ (counts marks : List ℕ) (floats : List Float) (reference : ℕ) (firs
         sums = powerSum-inMask test cameras;
       }
 
-  some-unchained : (unreachedSet grid ≡ 0 → ⊥) → (c : ℕ) × (c < cameras) × (Chained marks cameras views reference c → ⊥)
+  pub some-unchained : (unreachedSet grid ≡ 0 → ⊥) → (c : ℕ) × (c < cameras) × (Chained marks cameras views reference c → ⊥)
   unfolding unreachedSet directGrid
   some-unchained other =
       let (c, h, e) = powerSum-some (λ i. not (hasPlace grid i)) cameras other in
@@ -125,7 +127,7 @@ module _ (counts marks : List ℕ) (floats : List Float) (reference : ℕ) (firs
     every-has-place : (c : ℕ) → c < cameras → hasPlace grid c ≡ true
     every-has-place c h = placed-isPlaced _ _ (spotAt (spots grid) c) (isPlaced-parts (spotAt (spots grid) c) (every-placed c h))
 
-    every-chained : EveryCameraChained marks cameras views reference
+    pub every-chained : EveryCameraChained marks cameras views reference
     every-chained c h = by-marks .placed-with-chain c h .0 (every-placed c h)
 
     module _ (front : List Float) (back : List ℕ) where
@@ -147,9 +149,9 @@ module _ (counts marks : List ℕ) (floats : List Float) (reference : ℕ) (firs
       unfolding directGrid
       same-pose c h = reportedCamera-transforms grid front c h
 
-      solved-chains : Layered cameras w reference (λ c. true) (reportedParent second′) (reportedLinks second′)
+      solved-chains : Layered cameras w oneView reference (λ c. true) (reportedParent second′) (reportedLinks second′)
       solved-chains =
-          layered-report cameras w reference (sizes .reference-inside) (hasPlace grid) (λ c. true) (parent grid) (reportedParent second′)
+          layered-report cameras w oneView reference (sizes .reference-inside) (hasPlace grid) (λ c. true) (parent grid) (reportedParent second′)
           (linkCount grid) (reportedLinks second′) by-marks every-has-place (λ c h t. sym (same-parent c h)) (λ c h t. sym (same-links c h))
 
       solved-reference : reportedCamera first′ reference ≡ identityPose
@@ -258,11 +260,13 @@ module _ (counts marks : List ℕ) (floats : List Float) (reference : ℕ) (firs
               ⊎-elim (λ s. s .3) (⊎-elim (λ o. absurd (not-solved _ (o .is-8 .1) e)) (λ o. absurd (not-solved _ (o .is-9 .1) e))) case;
         }
 
--- Whatever the inputs, and whatever stood in the lent answers: where the checks before 8 pass, what the direct call ensures is demand 3.
+-- Whatever the inputs, and whatever stood in the lent answers: where the call is well formed, so that the checks before 8 pass, what the direct call
+-- ensures is demand 3.
 pub demand-3 : (counts marks : List ℕ) (floats : List Float) (reference : ℕ) (first : List Float) (second : List ℕ)
     (r : Outcome) (first′ : List Float) (second′ : List ℕ)
-    → PassesBefore8 counts marks floats reference (length first) (length second)
+    → WellFormed counts marks floats reference (length first) (length second)
     → Direct counts marks floats reference first second r first′ second′
     → Demand3 counts marks floats reference r first′ second′
-demand-3 counts marks floats reference first second r first′ second′ passes call =
-    demanded counts marks floats reference first second passes r first′ second′ call
+demand-3 counts marks floats reference first second r first′ second′ formed call =
+    demanded counts marks floats reference first second
+    (passes-before-8 counts marks floats reference (length first) (length second) .1 formed) r first′ second′ call

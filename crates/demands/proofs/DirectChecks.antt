@@ -1,24 +1,24 @@
 -- The checks of the direct call on inputs that hold a grid of the Rust's: sizes and counts are checked as the Rust checks them, nothing else is
 -- refused before 8 within the limits, and the grid that marks and floats make is the Rust's. Assumes nothing.
-use Prim.Native.Nat.{ℕ, zero, suc, _+_, _*_, _/_, _%_, _≤_, _<_}
+use Prim.Native.Nat.{ℕ, _+_, _*_, _/_, _%_, _≤_, _<_}
 use native.Mathlib.Nat.{mod-lt, div-add-mod', div-lt-iff-lt-mul}
 use native.Mathlib.Omega.{arith}
 use mathlib.Core.Path.{_≡_, refl, sym, ap, ap₂, _∙_}
 use mathlib.Core.Logic.{_≢_}
-use mathlib.Core.Bool.{Bool, true, false, not, false≢true}
+use mathlib.Core.Bool.{Bool, true, false, not}
 use mathlib.Core.Option.{Option, none, some}
 use mathlib.Core.List.{List, []}
 use lib.ListN.{length, getD, length-map, List·getD-map}
 use lib.Dec.{T, eqb, ltb}
 use lib.Ieee.{Float}
-use borrow.Author.Tests.{eqb-true, eq-eqb, ne-eqb, le-ltb, le-leb, lt-leb, not-false}
+use borrow.Author.Tests.{eqb-true, eq-eqb, ne-eqb, le-ltb, le-leb, not-false}
 use Rattle.arithmetic.specs.Pose.{finitePose}
 use Rattle.arithmetic.specs.declared.pose.Pose.{Pose}
 use Rattle.refusal.specs.Table.{refuseAt}
 use Rattle.refusal.specs.declared.Refusal.the-variants.{InsufficientData, InvalidReference, CountDiffers, BadMark, NotFinite}
-use Rattle.chains.specs.Limits.{maxViews, maxCameras}
+use Rattle.limits.specs.Limits.{maxViews, maxCameras, firstNeeds, secondNeeds}
 use Rattle.extrinsics.specs.Grid.{Grid}
-use Rattle.inputs.specs.Finding.{lowest}
+use Rattle.lists.specs.Finding.{lowest}
 use Rattle.extrinsics.specs.Outcome.{isNotFinite, notFinite}
 use Rattle.inputs.specs.Inputs.{sizeRefusal, cellCount, lowestOtherCount, countRefusal, lengthRefusal, markRefusal}
 use Rattle.extrinsics.specs.Direct.{markedCell, directGrid}
@@ -26,8 +26,8 @@ use Rattle.extrinsics.specs.declared.grid.Cell.the-variants.{Empty}
 use Rattle.demands.specs.RustStd.{forEach}
 use Rattle.demands.specs.Rust.{cameraCount, numViews, numCameras, checkCount, checkCounts}
 use Rattle.demands.specs.Encoding.{poseOf, EqualCounts, EncodesCells, Encodes, WithinLimits, RoomEnough}
-use Rattle.chains.proofs.Tabulated.{getD-tabulate}
-use Rattle.inputs.proofs.Lowest.{lowest-none-fails, lowest-nothing, lowest-agree}
+use Rattle.lists.proofs.Tabulated.{getD-tabulate}
+use Rattle.lists.proofs.Lowest.{lowest-none-fails, lowest-nothing, lowest-agree}
 use Rattle.extrinsics.proofs.ViewCells.{row-inside}
 use Rattle.demands.proofs.Iterators.{enumerate-tabulate, stopped, forEach-lowest}
 use Rattle.demands.proofs.SameGrid.{cellFor, SameGrid}
@@ -79,10 +79,10 @@ module _ (camSe3Target : List (List (Option Pose))) where
 -- ---- 5 and 7
 
 pub length-passes : (views cameras marks floats firstRoom secondRoom : ℕ) → marks ≡ views * cameras → floats ≡ 7 * (views * cameras)
-    → 7 * (cameras + views) ≤ firstRoom → 2 * cameras ≤ secondRoom → lengthRefusal views cameras marks floats firstRoom secondRoom ≡ none
+    → firstNeeds cameras views ≤ firstRoom → secondNeeds cameras ≤ secondRoom → lengthRefusal views cameras marks floats firstRoom secondRoom ≡ none
 unfolding lengthRefusal
 length-passes views cameras marks floats firstRoom secondRoom em ef h k =
-    rw (eq-eqb marks (views * cameras) em, eq-eqb floats (7 * (views * cameras)) ef, le-ltb firstRoom (7 * (cameras + views)) h, le-ltb secondRoom (2 * cameras) k)
+    rw (eq-eqb marks (views * cameras) em, eq-eqb floats (7 * (views * cameras)) ef, le-ltb firstRoom (firstNeeds cameras views) h, le-ltb secondRoom (secondNeeds cameras) k)
 
 pub T-not-false : (b : Bool) → T b → not b ≡ false
 T-not-false true t = refl

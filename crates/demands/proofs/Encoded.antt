@@ -9,10 +9,10 @@ use lib.ListN.{length, getD}
 use lib.Ieee.{Float, nan}
 use Rattle.arithmetic.specs.Pose.{flat, poseAt}
 use Rattle.arithmetic.specs.declared.pose.Pose.{Pose}
-use Rattle.chains.specs.Layers.{tabulate}
+use Rattle.lists.specs.Lists.{tabulate}
 use Rattle.demands.specs.Rust.{numViews, numCameras}
 use Rattle.demands.specs.Encoding.{markFor, poseOf, EncodesCells, Encodes}
-use Rattle.chains.proofs.Tabulated.{length-tabulate, getD-tabulate}
+use Rattle.lists.proofs.Tabulated.{length-tabulate, getD-tabulate}
 use Rattle.extrinsics.proofs.ViewCells.{row-inside, row-quotient, row-remainder}
 
 -- ---- one cell

@@ -10,9 +10,8 @@ use lib.ListN.{length, length-append}
 use lib.Ieee.{Float}
 use Rattle.arithmetic.specs.Pose.{flat}
 use Rattle.arithmetic.specs.declared.pose.Pose.{Pose}
-use Rattle.chains.specs.Shared.{count}
-use Rattle.chains.specs.Layers.{tabulate}
-use Rattle.extrinsics.specs.Estimate.{gather}
+use Rattle.lists.specs.Finding.{count}
+use Rattle.lists.specs.Lists.{tabulate, gather}
 use Rattle.demands.specs.Encoding.{flatAll}
 
 module _ {A : Type 0} where

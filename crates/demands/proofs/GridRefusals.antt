@@ -11,7 +11,7 @@ use borrow.Author.Tests.{not-false}
 use Rattle.refusal.specs.Table.{refuseIf, refuseAt, orElse}
 use Rattle.refusal.specs.declared.Refusal.{Refusal}
 use Rattle.refusal.specs.declared.Refusal.the-variants.{Unreached, EmptyView}
-use Rattle.chains.specs.Layers.{tabulate}
+use Rattle.lists.specs.Lists.{tabulate}
 use Rattle.extrinsics.specs.Grid.{Grid, hasPlace}
 use Rattle.extrinsics.specs.Estimate.{rigSe3Cam, rigSe3Target, transforms}
 use Rattle.extrinsics.specs.Outcome.{notFinite, unreachedSet, unreached, lowestEmptyView, emptyView, gridRefusal}

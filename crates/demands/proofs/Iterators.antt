@@ -7,12 +7,10 @@ use mathlib.Core.Bool.{Bool, true, false, cond}
 use mathlib.Core.Option.{Option, none, some}
 use mathlib.Core.List.{List, [], _∷_, _++_}
 use lib.ListN.{length, getD, length-append}
-use Rattle.chains.specs.Shared.{count}
-use Rattle.chains.specs.Layers.{tabulate}
-use Rattle.extrinsics.specs.Estimate.{gather}
-use Rattle.inputs.specs.Finding.{lowest}
+use Rattle.lists.specs.Finding.{count, lowest}
+use Rattle.lists.specs.Lists.{tabulate, gather}
 use Rattle.demands.specs.RustStd.{Result, ok, err, neither, _>>=_, range, enumerateFrom, enumerate, forEach, filter, consSome, filterMap}
-use Rattle.chains.proofs.Tabulated.{tabulate-getD}
+use Rattle.lists.proofs.Tabulated.{tabulate-getD}
 
 -- ---- ranges and enumerated lists as tables
 

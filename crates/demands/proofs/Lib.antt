@@ -1,7 +1,10 @@
 -- The theorems that the demands are met, and the laws they rest on.
+pub mod Deciding
+pub mod Carrying
 pub mod Iterators
 pub mod Ascending
 pub mod Gathered
+pub mod RustAverage
 pub mod SameGrid
 pub mod HeldCells
 pub mod PartialRigs
@@ -17,5 +20,9 @@ pub mod Blocks
 pub mod MarkedViews
 pub mod Naming
 pub mod ReadBack
-pub mod Demand3
 pub mod WellFormed
+pub mod Demand3
+pub mod FinitePoses
+pub mod DirectWords
+pub mod Beyond
+pub mod Demand1

@@ -16,16 +16,16 @@ use Rattle.arithmetic.specs.declared.pose.Pose.{Pose}
 use Rattle.chains.specs.Shared.{shared}
 use Rattle.extrinsics.specs.Grid.{Grid, isHeld, cellOf, holds, sharedViews}
 use Rattle.extrinsics.specs.Estimate.{linkCandidate, targetCandidate, linkCandidates, averagedLink, rigSe3Cam, targetCandidates}
-use Rattle.inputs.specs.Finding.{lowest}
+use Rattle.lists.specs.Finding.{lowest}
 use Rattle.extrinsics.specs.Outcome.{isEmptyView}
 use Rattle.inputs.specs.Inputs.{cellCount}
 use Rattle.extrinsics.specs.Direct.{markedCell, directGrid}
 use Rattle.demands.specs.Demand3.{marked, HoldsAPose, markedShared, targetPose, linksOver, averagedLinkOver, targetsOver}
 use Rattle.extrinsics.specs.declared.grid.Cell.{Cell}
 use Rattle.extrinsics.specs.declared.grid.Cell.the-variants.{Empty, Held}
-use Rattle.chains.proofs.Counting.{count-agree}
-use Rattle.chains.proofs.Tabulated.{getD-tabulate}
-use Rattle.inputs.proofs.Lowest.{lowest-passes, lowest-none-fails}
+use Rattle.lists.proofs.Counting.{count-agree}
+use Rattle.lists.proofs.Tabulated.{getD-tabulate}
+use Rattle.lists.proofs.Lowest.{lowest-passes, lowest-none-fails}
 use Rattle.extrinsics.proofs.Gathering.{gather-agree}
 use Rattle.extrinsics.proofs.ViewCells.{row-inside, isHeld-cond}
 

@@ -7,10 +7,10 @@ use mathlib.Core.Logic.{_↔_}
 use mathlib.Core.Bool.{Bool, true, false}
 use mathlib.Core.Option.{Option, none, some}
 use lib.Dec.{T}
-use Rattle.chains.specs.Masks.{inMask}
-use Rattle.inputs.specs.Finding.{lowest, powerSum}
-use Rattle.inputs.proofs.Lowest.{lowest-passes, lowest-none-fails}
-use Rattle.inputs.proofs.PowerSums.{powerSum-lt, powerSum-agree}
+use Rattle.lists.specs.Masks.{inMask}
+use Rattle.lists.specs.Finding.{lowest, powerSum}
+use Rattle.lists.proofs.Lowest.{lowest-passes, lowest-none-fails}
+use Rattle.lists.proofs.PowerSums.{powerSum-lt, powerSum-agree}
 use Rattle.inputs.proofs.MarkedMasks.{inMask-powerSum}
 use Rattle.extrinsics.proofs.Solving.{inMask-past}
 

@@ -14,11 +14,13 @@ use lib.Dec.{T, eqb, ltb}
 use borrow.Author.Tests.{eq-eqb, ne-eqb, lt-ltb, le-ltb}
 use Rattle.arithmetic.specs.Pose.{mulPose, identityPose}
 use Rattle.arithmetic.specs.declared.pose.Pose.{Pose}
-use Rattle.chains.specs.Layers.{Spot, notPlaced, placed, isPlaced, parentOf, inLayer, spotAt, startSpot, layers, tabulate}
+use Rattle.limits.specs.Limits.{oneView}
+use Rattle.chains.specs.Layers.{Spot, notPlaced, placed, isPlaced, parentOf, inLayer, spotAt, startSpot, layers}
+use Rattle.lists.specs.Lists.{tabulate}
 use Rattle.extrinsics.specs.Grid.{Grid, sharedViews, spots}
 use Rattle.extrinsics.specs.Estimate.{averagedLink, rigSe3Cam}
 use Rattle.demands.specs.RustStd.{isSome, range, filter}
-use Rattle.chains.proofs.Tabulated.{length-tabulate, getD-tabulate, tabulate-agree, tabulate-getD}
+use Rattle.lists.proofs.Tabulated.{length-tabulate, getD-tabulate, tabulate-agree, tabulate-getD}
 use Rattle.chains.proofs.Placing.{spot, offer, ofLayer, spot-zero, spot-next, spot-reference, spot-stays, layersTo-stays, kept-not-ofLayer, links-below-cameras, inLayer-placed, placed-inLayer, placed-isPlaced, placed-not-notPlaced}
 use Rattle.chains.proofs.Theorem.{final-placed}
 use Rattle.demands.proofs.Ascending.{filter-range-in, filter-range-out, filter-range-empty, filter-range-member, filter-range-one}
@@ -61,16 +63,16 @@ isSome-poseIn (placed q d) p = refl
 module _ (g : Grid) where
   -- The spot of camera c once layers 0 to k are placed, and the parent that layer k offers it.
   abbrev pub spotOf : ℕ → ℕ → Spot
-  spotOf k c = spot (g .cameras) (sharedViews g) (g .reference) k c
+  spotOf k c = spot (g .cameras) (sharedViews g) oneView (g .reference) k c
 
   abbrev pub offerTo : ℕ → ℕ → Option ℕ
-  offerTo k c = offer (g .cameras) (sharedViews g) (g .reference) k c
+  offerTo k c = offer (g .cameras) (sharedViews g) oneView (g .reference) k c
 
   -- ---- after each layer
 
   -- The cameras of layer k, ascending, and the rig poses once layers 0 to k are placed.
   abbrev pub layerAt : ℕ → List ℕ
-  layerAt k = filter (ofLayer (g .cameras) (sharedViews g) (g .reference) k) (range (g .cameras))
+  layerAt k = filter (ofLayer (g .cameras) (sharedViews g) oneView (g .reference) k) (range (g .cameras))
 
   abbrev pub rigAfter : ℕ → List (Option Pose)
   rigAfter k = tabulate (g .cameras) (λ c. poseIn (spotOf k c) (rigSe3Cam g c))
@@ -78,9 +80,9 @@ module _ (g : Grid) where
   -- A layer with a camera in it has a number below that of the cameras.
   pub layer-below : (k c : ℕ) (l : List ℕ) → layerAt k ≡ c ∷ l → k < g .cameras
   layer-below k c l e =
-      let (i, h, t) = filter-range-member (ofLayer (g .cameras) (sharedViews g) (g .reference) k) (g .cameras) c l e in
+      let (i, h, t) = filter-range-member (ofLayer (g .cameras) (sharedViews g) oneView (g .reference) k) (g .cameras) c l e in
       let (p, f) = inLayer-placed k (spotOf k i) (subst T (sym t) tt) in
-      links-below-cameras (g .cameras) (sharedViews g) (g .reference) k i p k h f
+      links-below-cameras (g .cameras) (sharedViews g) oneView (g .reference) k i p k h f
 
   -- ---- at the end
 
@@ -93,8 +95,8 @@ module _ (g : Grid) where
   rigAfter-final k h e =
       tabulate-agree (g .cameras) _ _
       (λ c l. ap (λ (s : List Spot). poseIn (spotAt s c) (rigSe3Cam g c))
-      (sym (layersTo-stays (g .cameras) (sharedViews g) (g .reference) k
-      (filter-range-empty (ofLayer (g .cameras) (sharedViews g) (g .reference) k) (g .cameras) e) (g .cameras) h)))
+      (sym (layersTo-stays (g .cameras) (sharedViews g) oneView (g .reference) k
+      (filter-range-empty (ofLayer (g .cameras) (sharedViews g) oneView (g .reference) k) (g .cameras) e) (g .cameras) h)))
 
   -- ---- in the middle of a turn
 
@@ -106,7 +108,7 @@ module _ (g : Grid) where
   midRig k m = tabulate (g .cameras) (λ c. poseIn (midSpot k m c) (rigSe3Cam g c))
 
   abbrev pub midNext : ℕ → ℕ → List ℕ
-  midNext k m = filter (ofLayer (g .cameras) (sharedViews g) (g .reference) (suc k)) (range m)
+  midNext k m = filter (ofLayer (g .cameras) (sharedViews g) oneView (g .reference) (suc k)) (range m)
 
   midSpot-visited : (k m c : ℕ) → c < m → midSpot k m c ≡ spotOf (suc k) c
   midSpot-visited k m c h = rw (lt-ltb c m h)
@@ -119,7 +121,7 @@ module _ (g : Grid) where
   midSpot-placed k m c p d h e = go (ltb c m)
     where
       go : (t : Bool) → cond t (spotOf (suc k) c) (spotOf k c) ≡ placed p d
-      go true = spot-next (g .cameras) (sharedViews g) (g .reference) k c p d h e
+      go true = spot-next (g .cameras) (sharedViews g) oneView (g .reference) k c p d h e
       go false = e
 
   pub getD-midRig-waiting : (k m : ℕ) → m < g .cameras → getD (midRig k m) m none ≡ poseIn (spotOf k m) (rigSe3Cam g m)
@@ -160,7 +162,7 @@ module _ (g : Grid) where
 
   pub midNext-kept : (k m : ℕ) → m < g .cameras → spotOf (suc k) m ≡ spotOf k m → midNext k (suc m) ≡ midNext k m
   midNext-kept k m h e =
-      filter-range-out (ofLayer (g .cameras) (sharedViews g) (g .reference) (suc k)) m (kept-not-ofLayer (g .cameras) (sharedViews g) (g .reference) k m h e)
+      filter-range-out (ofLayer (g .cameras) (sharedViews g) oneView (g .reference) (suc k)) m (kept-not-ofLayer (g .cameras) (sharedViews g) oneView (g .reference) k m h e)
 
   -- A camera that the turn places.
   pub midRig-placed : (k m p : ℕ) → m < g .cameras → spotOf (suc k) m ≡ placed p (suc k) → midRig k (suc m) ≡ set (midRig k m) m (some (rigSe3Cam g m))
@@ -172,15 +174,15 @@ module _ (g : Grid) where
 
   pub midNext-placed : (k m p : ℕ) → spotOf (suc k) m ≡ placed p (suc k) → midNext k (suc m) ≡ midNext k m ++ (m ∷ [])
   midNext-placed k m p e =
-      filter-range-in (ofLayer (g .cameras) (sharedViews g) (g .reference) (suc k)) m (placed-inLayer (suc k) p (spotOf (suc k) m) e)
+      filter-range-in (ofLayer (g .cameras) (sharedViews g) oneView (g .reference) (suc k)) m (placed-inLayer (suc k) p (spotOf (suc k) m) e)
 
   module _ (inside : g .reference < g .cameras) where
     -- The pose of a camera that the turn places under camera p.
     waiting-not-reference : (k m : ℕ) → spotOf k m ≡ notPlaced → m ≢ g .reference
     waiting-not-reference k m e s =
         placed-not-notPlaced (spotOf k (g .reference)) (g .reference) 0
-        (spot-stays (g .cameras) (sharedViews g) (g .reference) 0 k (g .reference) (g .reference) 0 inside (omega arith)
-        (spot-reference (g .cameras) (sharedViews g) (g .reference) inside))
+        (spot-stays (g .cameras) (sharedViews g) oneView (g .reference) 0 k (g .reference) (g .reference) 0 inside (omega arith)
+        (spot-reference (g .cameras) (sharedViews g) oneView (g .reference) inside))
         (ap (spotOf k) (sym s) ∙ e)
 
     pub rigSe3Cam-under : (k m p : ℕ) → m < g .cameras → spotOf k m ≡ notPlaced → spotOf (suc k) m ≡ placed p (suc k)
@@ -191,16 +193,16 @@ module _ (g : Grid) where
         ∙ ap (λ (q : ℕ). mulPose (rigSe3Cam g q) (averagedLink g q m)) (ap parentOf final)
       where
         final : spotAt (spots g) m ≡ placed p (suc k)
-        final = final-placed (g .cameras) (sharedViews g) (g .reference) (suc k) m p (suc k) h f
+        final = final-placed (g .cameras) (sharedViews g) oneView (g .reference) (suc k) m p (suc k) h f
 
     -- ---- before the first turn
 
     spot-other : (c : ℕ) → c < g .cameras → c ≢ g .reference → spotOf 0 c ≡ notPlaced
     unfolding startSpot
-    spot-other c h n = spot-zero (g .cameras) (sharedViews g) (g .reference) c h ∙ rw (ne-eqb c (g .reference) n)
+    spot-other c h n = spot-zero (g .cameras) (sharedViews g) oneView (g .reference) c h ∙ rw (ne-eqb c (g .reference) n)
 
     spot-first : spotOf 0 (g .reference) ≡ placed (g .reference) 0
-    spot-first = spot-reference (g .cameras) (sharedViews g) (g .reference) inside
+    spot-first = spot-reference (g .cameras) (sharedViews g) oneView (g .reference) inside
 
     pub rigAfter-zero : set (replicate (g .cameras) none) (g .reference) (some identityPose) ≡ rigAfter 0
     rigAfter-zero =
@@ -212,7 +214,7 @@ module _ (g : Grid) where
     pub layerAt-zero : layerAt 0 ≡ g .reference ∷ []
     unfolding inLayer
     layerAt-zero =
-        filter-range-one (ofLayer (g .cameras) (sharedViews g) (g .reference) 0) (g .reference) (g .cameras) (λ c l. go c l (ℕ-discrete c (g .reference))) inside
+        filter-range-one (ofLayer (g .cameras) (sharedViews g) oneView (g .reference) 0) (g .reference) (g .cameras) (λ c l. go c l (ℕ-discrete c (g .reference))) inside
       where
         go : (c : ℕ) → c < g .cameras → Dec (c ≡ g .reference) → inLayer 0 (spotOf 0 c) ≡ eqb c (g .reference)
         go c l (yes y) = placed-inLayer 0 (g .reference) (spotOf 0 c) (ap (spotOf 0) y ∙ spot-first) ∙ sym (eq-eqb c (g .reference) y)

@@ -8,7 +8,8 @@ use lib.ListN.{getD}
 use lib.Ieee.{Float}
 use Rattle.arithmetic.specs.Pose.{poseAt, flat}
 use Rattle.extrinsics.specs.Grid.{Grid, parent, linkCount}
-use Rattle.extrinsics.specs.Estimate.{gather, rigSe3Cam, rigSe3Target, transforms, chains}
+use Rattle.lists.specs.Lists.{gather}
+use Rattle.extrinsics.specs.Estimate.{rigSe3Cam, rigSe3Target, transforms, chains}
 use Rattle.demands.specs.Demand3.{reportedParent, reportedLinks, reportedCamera, reportedView}
 use Rattle.demands.proofs.Blocks.{getD-gather-front, poseAt-gather, poseAt-gather-past}
 

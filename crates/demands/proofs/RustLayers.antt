@@ -12,11 +12,14 @@ use lib.Dec.{T, eqb, ltb}
 use borrow.Author.Tests.{ne-eqb}
 use Rattle.arithmetic.specs.Pose.{mulPose, identityPose}
 use Rattle.arithmetic.specs.declared.pose.Pose.{Pose}
-use Rattle.chains.specs.Layers.{Spot, notPlaced, placed, inLayer, nextSpot, linkedInLayer, parentInLayer, tabulate}
+use Rattle.limits.specs.Limits.{oneView}
+use Rattle.chains.specs.Layers.{Spot, notPlaced, placed, inLayer, nextSpot, linkedInLayer, parentInLayer}
+use Rattle.lists.specs.Lists.{tabulate}
 use Rattle.extrinsics.specs.Grid.{Grid, sharedViews}
 use Rattle.extrinsics.specs.Estimate.{averagedLink, rigSe3Cam}
 use Rattle.demands.specs.RustStd.{ok, isSome, range, forEach, filter}
-use Rattle.demands.specs.Rust.{averageIsometries?, numCameras, shared, parentIn, candidates, place, visit, whileLayer}
+use Rattle.demands.specs.RustAverage.{averageIsometries?}
+use Rattle.demands.specs.Rust.{numCameras, shared, parentIn, candidates, place, visit, whileLayer}
 use Rattle.chains.proofs.MostViews.{mostViews-agree}
 use Rattle.chains.proofs.Placing.{Offered, spot-suc, spot-next, offer-some, inLayer-placed, placed-not-notPlaced}
 use Rattle.demands.proofs.Iterators.{range-tabulate, forEach-ok}
@@ -86,7 +89,7 @@ module _ (camSe3Target : List (List (Option Pose))) (g : Grid) (same : SameGrid 
   visit-placed k m p d h e =
       visit-skips camSe3Target (layerAt g k) m (midRig g k m) (midNext g k m)
       (ap isSome (getD-midRig-waiting g k m h) ∙ ap (λ (s : Spot). isSome (poseIn s (rigSe3Cam g m))) e)
-      ∙ ap ok (mid-kept k m h (spot-next (g .cameras) (sharedViews g) (g .reference) k m p d h e ∙ sym e))
+      ∙ ap ok (mid-kept k m h (spot-next (g .cameras) (sharedViews g) oneView (g .reference) k m p d h e ∙ sym e))
 
   -- Any other is not in the rig yet, and what the layer offers it decides.
   visit-waiting : (k m : ℕ) → m < g .cameras → spotOf g k m ≡ notPlaced → (o : Option ℕ) → offerTo g k m ≡ o
@@ -103,7 +106,7 @@ module _ (camSe3Target : List (List (Option Pose))) (g : Grid) (same : SameGrid 
   unfolding place nextSpot
   visit-unlinked k m h e o =
       visit-waiting k m h e none o
-      ∙ ap ok (mid-kept k m h (spot-suc (g .cameras) (sharedViews g) (g .reference) k m h ∙ ap₂ (nextSpot k) e o ∙ sym e))
+      ∙ ap ok (mid-kept k m h (spot-suc (g .cameras) (sharedViews g) oneView (g .reference) k m h ∙ ap₂ (nextSpot k) e o ∙ sym e))
 
   module _ (inside : g .reference < g .cameras) where
     -- One to which the layer offers a parent gets the parent's pose times their averaged link.
@@ -119,11 +122,11 @@ module _ (camSe3Target : List (List (Option Pose))) (g : Grid) (same : SameGrid 
         (ap (λ (q : Pose). set (midRig g k m) m (some q)) (sym (rigSe3Cam-under g inside k m p h e after)) ∙ sym (midRig-placed g k m p h after))
         (sym (midNext-placed g k m p after))
       where
-        by : Offered (g .cameras) (sharedViews g) (g .reference) k m p
-        by = offer-some (g .cameras) (sharedViews g) (g .reference) k m p o
+        by : Offered (g .cameras) (sharedViews g) oneView (g .reference) k m p
+        by = offer-some (g .cameras) (sharedViews g) oneView (g .reference) k m p o
 
         after : spotOf g (suc k) m ≡ placed p (suc k)
-        after = spot-suc (g .cameras) (sharedViews g) (g .reference) k m h ∙ ap₂ (nextSpot k) e o
+        after = spot-suc (g .cameras) (sharedViews g) oneView (g .reference) k m h ∙ ap₂ (nextSpot k) e o
 
     visited : (k m : ℕ) → m < g .cameras → visit camSe3Target (layerAt g k) m (mid k m) ≡ ok (mid k (suc m))
     visited k m h = go (spotOf g k m) refl (offerTo g k m) refl

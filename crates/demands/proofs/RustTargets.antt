@@ -9,22 +9,24 @@ use lib.ListN.{getD}
 use Rattle.arithmetic.specs.Pose.{identityPose}
 use Rattle.average.specs.Average.{averageIsometries}
 use Rattle.arithmetic.specs.declared.pose.Pose.{Pose}
-use Rattle.chains.specs.Layers.{Spot, notPlaced, placed, isPlaced, spotAt, tabulate}
+use Rattle.chains.specs.Layers.{Spot, notPlaced, placed, isPlaced, spotAt}
+use Rattle.lists.specs.Lists.{tabulate, gather}
 use Rattle.extrinsics.specs.Grid.{Grid, isHeld, cellOf, holds, spots, hasPlace}
-use Rattle.extrinsics.specs.Estimate.{gather, rigSe3Cam, rigSe3Target}
+use Rattle.extrinsics.specs.Estimate.{rigSe3Cam, rigSe3Target}
 use Rattle.extrinsics.specs.Estimate as ours
-use Rattle.inputs.specs.Finding.{lowest}
+use Rattle.lists.specs.Finding.{lowest}
 use Rattle.extrinsics.specs.Outcome.{isEmptyView, lowestEmptyView}
 use Rattle.extrinsics.specs.declared.grid.Cell.{Cell}
 use Rattle.extrinsics.specs.declared.grid.Cell.the-variants.{Empty, Held}
 use Rattle.demands.specs.RustStd.{ok, err, isSome, isEmpty, range, enumerate, forEach, filter, consSome, filterMap, flatten}
-use Rattle.demands.specs.Rust.{noValidCameraPoses, averageIsometries?, numViews, unreached, targetCandidate, targetCandidates, pushTarget}
+use Rattle.demands.specs.Rust.{noValidCameraPoses, numViews, unreached, targetCandidate, targetCandidates, pushTarget}
 use Rattle.demands.specs.Encoding.{poseOf}
-use Rattle.chains.proofs.Tabulated.{getD-tabulate}
+use Rattle.lists.proofs.Tabulated.{getD-tabulate}
 use Rattle.extrinsics.proofs.Gathering.{gather-agree}
 use Rattle.demands.proofs.Gathered.{gather-tabulate}
 use Rattle.demands.proofs.Iterators.{enumerate-tabulate, filterMap-tabulate, stopped, forEach-lowest}
 use Rattle.demands.proofs.Ascending.{filter-range-agree}
+use Rattle.demands.proofs.RustAverage.{averageIsometries?-cons}
 use Rattle.demands.proofs.SameGrid.{cellFor, SameGrid}
 use Rattle.demands.proofs.PartialRigs.{poseIn, isSome-poseIn, rigFinal}
 
@@ -44,9 +46,9 @@ consSome-poseIn (placed q d) p e = refl
 pushTarget-average : (rig : List Pose) (v : ℕ) (view : List (Option Pose)) (targets l : List Pose)
     → targetCandidates rig view ≡ l
     → pushTarget rig (v, view) targets ≡ cond (isEmpty l) (err (noValidCameraPoses v)) (ok (targets ++ (averageIsometries l ∷ [])))
-unfolding pushTarget averageIsometries?
+unfolding pushTarget
 pushTarget-average rig v view targets [] e = rw e
-pushTarget-average rig v view targets (p ∷ l) e = rw e
+pushTarget-average rig v view targets (p ∷ l) e = rw (e, averageIsometries?-cons p l)
 
 -- A view is empty exactly where no cell of it is held.
 nothing : Option ℕ → Bool

@@ -5,24 +5,25 @@ use native.Mathlib.Omega.{arith}
 use mathlib.Core.Path.{_≡_, refl, sym, ap, ap₂, _∙_}
 use mathlib.Core.Bool.{cond, _&&_, and-comm}
 use mathlib.Core.Option.{Option, none, some}
-use mathlib.Core.List.{List, [], _∷_}
+use mathlib.Core.List.{List, []}
 use lib.ListN.{length, getD}
-use Rattle.average.specs.Average.{averageIsometries}
 use Rattle.arithmetic.specs.declared.pose.Pose.{Pose}
 use Rattle.chains.specs.Shared as ours
-use Rattle.chains.specs.Layers.{tabulate}
+use Rattle.lists.specs.Lists.{tabulate}
 use Rattle.extrinsics.specs.Grid.{Grid, isHeld, cellOf, holds, sharedViews}
 use Rattle.extrinsics.specs.Estimate.{linkCandidate, linkCandidates, averagedLink}
 use Rattle.extrinsics.specs.declared.grid.Cell.{Cell}
 use Rattle.extrinsics.specs.declared.grid.Cell.the-variants.{Empty, Held}
 use Rattle.demands.specs.RustStd.{ok, isSome, filter, consSome, filterMap}
-use Rattle.demands.specs.Rust.{averageIsometries?, relativePose, numViews, numCameras, shared, candidates}
+use Rattle.demands.specs.RustAverage.{averageIsometries?}
+use Rattle.demands.specs.Rust.{relativePose, numViews, numCameras, shared, candidates}
 use Rattle.demands.specs.Encoding.{poseOf}
-use Rattle.chains.proofs.Counting.{count-agree}
-use Rattle.chains.proofs.Tabulated.{tabulate-getD}
+use Rattle.lists.proofs.Counting.{count-agree}
+use Rattle.lists.proofs.Tabulated.{tabulate-getD}
 use Rattle.extrinsics.proofs.Gathering.{gather-agree}
 use Rattle.demands.proofs.Gathered.{length-gather}
 use Rattle.demands.proofs.Iterators.{length-filter-tabulate, filterMap-tabulate}
+use Rattle.demands.proofs.RustAverage.{averageIsometries?-ok}
 
 -- The cell of an option.
 abbrev pub cellFor : Option Pose → Cell
@@ -49,13 +50,6 @@ length-linkCandidate Empty Empty = refl
 length-linkCandidate Empty (Held q) = refl
 length-linkCandidate (Held p) Empty = refl
 length-linkCandidate (Held p) (Held q) = refl
-
--- ---- averages
-
-pub averageIsometries?-ok : (l : List Pose) → 0 < length l → averageIsometries? l ≡ ok (averageIsometries l)
-unfolding averageIsometries?
-averageIsometries?-ok [] h = absurd (omega arith)
-averageIsometries?-ok (p ∷ l) h = refl
 
 -- ---- one grid
 

@@ -13,7 +13,6 @@ use lib.Ieee.{Float}
 use borrow.Author.Tests.{eqb-true, eq-eqb, le-ltb, not-false}
 use Rattle.arithmetic.specs.Pose.{poseAt, finitePose}
 use Rattle.arithmetic.specs.declared.pose.Pose.{Pose}
-use Rattle.refusal.specs.Table.{firstOf}
 use Rattle.refusal.specs.declared.Refusal.{Refusal}
 use Rattle.refusal.specs.declared.Refusal.the-variants.{CountDiffers, BadMark, NotFinite}
 use Rattle.extrinsics.specs.Grid.{Grid}
@@ -21,25 +20,24 @@ use Rattle.extrinsics.specs.Outcome.{isNotFinite, lowestNotFinite, notFinite}
 use Rattle.inputs.specs.Inputs.{sizeRefusal, cellCount, lowestOtherCount, countRefusal, lengthRefusal, lowestBadMark, markRefusal, inputRefusal}
 use Rattle.extrinsics.specs.Direct.{markedCell, directGrid}
 use Rattle.extrinsics.specs.declared.grid.Cell.the-variants.{Empty, Held}
-use Rattle.demands.specs.Demand3.{PassesBefore8, WellFormed}
-use Rattle.inputs.proofs.Answering.{refuseAt-none, refuseAt-nothing, firstOf-none, firstOf-none-all, AllNone, Sizes, sizeRefusal-sizes, Lengths}
-use Rattle.inputs.proofs.Lowest.{lowest-none-fails, lowest-nothing}
-use Rattle.chains.proofs.Tabulated.{getD-tabulate}
+use Rattle.demands.specs.Demand3.{WellFormed}
+use Rattle.inputs.proofs.Answering.{refuseAt-none, refuseAt-nothing, firstOf-none-all, AllNone, Sizes, sizeRefusal-sizes, Lengths}
+use Rattle.lists.proofs.Lowest.{lowest-none-fails, lowest-nothing}
+use Rattle.lists.proofs.Tabulated.{getD-tabulate}
 use Rattle.extrinsics.proofs.DirectCall.{input-sizes, input-lengths, input-marks}
+use Rattle.demands.proofs.Carrying.{all-none-firstOf}
 use Rattle.demands.proofs.DirectChecks.{length-passes, T-not-false}
 
--- ---- checks that find nothing
-
-all-none-firstOf : (checks : List (Option Refusal)) → AllNone checks → firstOf checks ≡ none
-unfolding firstOf
-all-none-firstOf [] h = refl
-all-none-firstOf (check ∷ later) (e, h) = firstOf-none check later e ∙ all-none-firstOf later h
+-- "Every grid that passes all the checks document 01 puts before 8": 1 to 6, and 7.
+pub record PassesBefore8 (counts marks : List ℕ) (floats : List Float) (reference firstRoom secondRoom : ℕ) : Type 0 where
+  pub passes-1-to-6 : inputRefusal counts marks (length floats) reference firstRoom secondRoom ≡ none
+  pub passes-7 : notFinite (directGrid counts marks floats reference) ≡ none
 
 -- ---- a cell by its mark
 
 -- The cell that a mark of n and the pose p make.
 module _ (p : Pose) where
-  abbrev notFiniteBy : ℕ → Bool
+  abbrev pub notFiniteBy : ℕ → Bool
   notFiniteBy n = isNotFinite (cond (eqb n 0) Empty (Held p))
 
   finite-by-mark : (n : ℕ) → n ≤ 1 → (n ≡ 1 → T (finitePose p)) → notFiniteBy n ≡ false
@@ -67,10 +65,10 @@ module _ (counts marks : List ℕ) (floats : List Float) (reference firstRoom se
   abbrev isOther : ℕ → Bool
   isOther v = not (eqb (getD counts v 0) (getD counts 0 0))
 
-  abbrev isBad : ℕ → Bool
+  abbrev pub isBad : ℕ → Bool
   isBad i = isNotFinite (getD (grid .cells) i Empty)
 
-  isBad-mark : (i : ℕ) → i < cellCount counts → isBad i ≡ notFiniteBy (poseAt floats (7 * i)) (getD marks i 0)
+  pub isBad-mark : (i : ℕ) → i < cellCount counts → isBad i ≡ notFiniteBy (poseAt floats (7 * i)) (getD marks i 0)
   unfolding directGrid markedCell
   isBad-mark i l = ap isNotFinite (getD-tabulate (cellCount counts) (markedCell marks floats) Empty i l)
 

@@ -5,7 +5,6 @@ use Prim.Native.Nat.{ℕ, _+_, _*_, _≤_, _<_}
 use mathlib.Core.Path.{_≡_}
 use mathlib.Core.Logic.{_≢_, _↔_, _⊎_}
 use mathlib.Core.Bool.{Bool, true, _&&_, cond}
-use mathlib.Core.Option.{none}
 use mathlib.Core.List.{List, [], _∷_}
 use lib.ListN.{length, getD}
 use lib.Dec.{T, eqb}
@@ -15,25 +14,18 @@ use Rattle.average.specs.Average.{averageIsometries}
 use Rattle.arithmetic.specs.declared.pose.Pose.{Pose}
 use Rattle.refusal.specs.Table.{numberOf, detailOf}
 use Rattle.refusal.specs.declared.Refusal.{Refusal}
-use Rattle.chains.specs.Limits.{maxViews, maxCameras}
+use Rattle.limits.specs.Limits.{maxViews, maxCameras, oneView, parentPlace, linksPlace, firstNeeds, secondNeeds}
 use Rattle.chains.specs.Shared.{shared}
 use Rattle.chains.specs.Chains.{HasChain}
 use Rattle.chains.specs.Layered.{Layered}
-use Rattle.chains.specs.Masks.{inMask}
-use Rattle.extrinsics.specs.Estimate.{gather}
-use Rattle.inputs.specs.Finding.{powerSum}
-use Rattle.extrinsics.specs.Outcome.{notFinite}
-use Rattle.inputs.specs.Inputs.{inputRefusal}
-use Rattle.extrinsics.specs.Direct.{directGrid}
+use Rattle.lists.specs.Masks.{inMask}
+use Rattle.lists.specs.Lists.{gather}
+use Rattle.lists.specs.Finding.{powerSum}
 use Rattle.extrinsics.specs.declared.Outcome.{Outcome}
 use Rattle.extrinsics.specs.declared.Outcome.the-variants.{Refused, Solved}
 
--- "Every grid that passes all the checks document 01 puts before 8": 1 to 6, and 7.
-pub record PassesBefore8 (counts marks : List ℕ) (floats : List Float) (reference firstRoom secondRoom : ℕ) : Type 0 where
-  pub passes-1-to-6 : inputRefusal counts marks (length floats) reference firstRoom secondRoom ≡ none
-  pub passes-7 : notFinite (directGrid counts marks floats reference) ≡ none
-
--- The same in the papers' own words (`passes-before-8` of `WellFormed`). The views of the call are its counts, and its cameras those of view 0.
+-- "Every grid that passes all the checks document 01 puts before 8", in the papers' own words: 1 to 7 find nothing exactly here
+-- (`passes-before-8` of `WellFormed`). The views of the call are its counts, and its cameras those of view 0.
 pub record WellFormed (counts marks : List ℕ) (floats : List Float) (reference firstRoom secondRoom : ℕ) : Type 0 where
   -- "Views: 1 to 64." "Cameras: 1 to 16." The reference is one of them.
   pub some-views : 1 ≤ length counts
@@ -46,8 +38,8 @@ pub record WellFormed (counts marks : List ℕ) (floats : List Float) (reference
   -- Marks are "one per cell, floats [..] seven per cell", and no "answer is too short".
   pub mark-each : length marks ≡ length counts * getD counts 0 0
   pub seven-each : length floats ≡ 7 * (length counts * getD counts 0 0)
-  pub first-fits : 7 * (getD counts 0 0 + length counts) ≤ firstRoom
-  pub second-fits : 2 * getD counts 0 0 ≤ secondRoom
+  pub first-fits : firstNeeds (getD counts 0 0) (length counts) ≤ firstRoom
+  pub second-fits : secondNeeds (getD counts 0 0) ≤ secondRoom
   -- No "mark above 1", and no "non-finite number in a held [..] pose".
   pub mark-small : (i : ℕ) → i < length marks → getD marks i 0 ≤ 1
   pub finite-poses : (i : ℕ) → i < length marks → getD marks i 0 ≡ 1 → T (finitePose (poseAt floats (7 * i)))
@@ -56,10 +48,10 @@ pub record WellFormed (counts marks : List ℕ) (floats : List Float) (reference
 
 -- "the second at least 2 × cameras bytes, a parent and a link count each"
 unfoldable pub reportedParent : List ℕ → ℕ → ℕ
-reportedParent second c = getD second (2 * c) 0
+reportedParent second c = getD second (parentPlace c) 0
 
 unfoldable pub reportedLinks : List ℕ → ℕ → ℕ
-reportedLinks second c = getD second (2 * c + 1) 0
+reportedLinks second c = getD second (linksPlace c) 0
 
 -- "The first answer has at least 7 × (cameras + views) floats, cameras first": T_R_C of camera c, and T_R_T of view v.
 unfoldable pub reportedCamera : List Float → ℕ → Pose
@@ -132,7 +124,7 @@ module _ (marks : List ℕ) (cameras views : ℕ) where
   module _ (reference : ℕ) where
     -- Camera c "can be tied to the reference by a chain of cameras, neighbours sharing a view".
     abbrev pub Chained : ℕ → Type 0
-    Chained c = HasChain cameras markedShared reference c
+    Chained c = HasChain cameras markedShared oneView reference c
 
     abbrev pub EveryCameraChained : Type 0
     EveryCameraChained = (c : ℕ) → c < cameras → Chained c
@@ -163,7 +155,7 @@ module _ (marks : List ℕ) (cameras views : ℕ) where
         -- number of links in it, and every other chain of that camera has at least as many. For all but the reference, the parent is one
         -- link nearer than the camera, and every other camera one link nearer shares fewer views with the camera than the parent does,
         -- or as many and has a higher index."
-        pub chains : Layered cameras markedShared reference (λ c. true) (reportedParent second) (reportedLinks second)
+        pub chains : Layered cameras markedShared oneView reference (λ c. true) (reportedParent second) (reportedLinks second)
         -- "Bit for bit, all NaNs counting as one, the reference's reported pose is the identity,"
         pub reference-pose : reportedCamera first reference ≡ identityPose
         -- "every other camera's is its parent's times their averaged link,"

@@ -11,7 +11,7 @@ use Rattle.arithmetic.specs.Pose.{finitePose, flat, poseAt}
 use Rattle.arithmetic.specs.declared.pose.Pose.{Pose}
 use Rattle.refusal.specs.declared.Refusal.{Refusal}
 use Rattle.refusal.specs.declared.Refusal.the-variants.{InsufficientData, InvalidReference, CountDiffers, Unreached, EmptyView}
-use Rattle.chains.specs.Limits.{maxViews, maxCameras}
+use Rattle.limits.specs.Limits.{maxViews, maxCameras, firstNeeds, secondNeeds}
 use Rattle.demands.specs.RustStd.{Result, ok, err, neither}
 use Rattle.demands.specs.Rust.{Error, insufficientData, invalidRefCamIdx, cameraCount, shareNoView, noValidCameraPoses, ExtrinsicPoses, numViews, numCameras}
 use Rattle.extrinsics.specs.declared.Outcome.{Outcome}
@@ -55,8 +55,13 @@ module _ (camSe3Target : List (List (Option Pose))) where
 
   -- Lent answers of so many floats and bytes are long enough.
   pub record RoomEnough (firstRoom secondRoom : ℕ) : Type 0 where
-    pub first-fits : 7 * (numCameras camSe3Target + numViews camSe3Target) ≤ firstRoom
-    pub second-fits : 2 * numCameras camSe3Target ≤ secondRoom
+    pub first-fits : firstNeeds (numCameras camSe3Target) (numViews camSe3Target) ≤ firstRoom
+    pub second-fits : secondNeeds (numCameras camSe3Target) ≤ secondRoom
+
+  -- Room is asked for only where sizes and counts are right: the reference is one of the cameras, so that there are a view and a camera, and every
+  -- view has as many. Elsewhere answers of any length will do, since 1 to 4 come before 5.
+  abbrev pub RoomWhereSized : ℕ → ℕ → ℕ → Type 0
+  RoomWhereSized refCamIdx firstRoom secondRoom = refCamIdx < numCameras camSe3Target → EqualCounts → RoomEnough firstRoom secondRoom
 
 -- ---- answers
 

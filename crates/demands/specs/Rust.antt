@@ -1,6 +1,6 @@
 -- The Rust function `estimate_extrinsics_from_cam_target_poses` of extrinsics.rs, step by step in its own order and terms, to be read with the
--- Rust in the other hand. It shares the arithmetic of `arithmetic` and the average of a non-empty list of `average` with the definitions of the
--- direct call, and nothing else.
+-- Rust in the other hand. It shares the arithmetic of `arithmetic` with the definitions of the direct call, and nothing else: the average that
+-- it takes is the Rust's own, of `RustAverage`.
 use Prim.Native.Nat.{ℕ, zero, suc}
 use mathlib.Core.Bool.{Bool, true, false, not, _&&_, _||_}
 use mathlib.Core.Option.{Option, none, some}
@@ -8,27 +8,15 @@ use mathlib.Core.List.{List, [], _∷_, _++_, map}
 use lib.ListN.{length, getD, set, replicate}
 use lib.Dec.{eqb, leb, ltb}
 use Rattle.arithmetic.specs.Pose.{mulPose, inversePose, identityPose}
-use Rattle.average.specs.Average.{averageIsometries}
 use Rattle.arithmetic.specs.declared.pose.Pose.{Pose}
-use Rattle.demands.specs.RustStd.{Result, ok, err, neither, _>>=_, _>>_, returnErrIf, expect, isSome, _‼_, isEmpty, range, enumerate, forEach, filter, filterMap, flatten, minBy}
-
--- The errors, one case for each kind of message, with the number or the list that tells one such message from another.
-pub data Error : Type 0 where
-  insufficientData : Error
-  invalidRefCamIdx : Error
-  cameraCount : (vIdx : ℕ) → Error
-  shareNoView : (unreached : List ℕ) → Error
-  noValidCameraPoses : (vIdx : ℕ) → Error
+use Rattle.demands.specs.RustAverage.{averageIsometries?}
+pub use Rattle.demands.specs.RustError.{Error, insufficientData, invalidRefCamIdx, cameraCount, shareNoView, noValidCameraPoses}
+use Rattle.demands.specs.RustStd.{Result, ok, neither, _>>=_, _>>_, returnErrIf, expect, isSome, _‼_, isEmpty, range, enumerate, forEach, filter, filterMap, flatten, minBy}
 
 -- `struct ExtrinsicPoses`
 pub record ExtrinsicPoses : Type 0 where
   pub rigSe3Cam : List Pose
   pub rigSe3Target : List Pose
-
--- `average_isometries(&poses)?`: "`Error::InsufficientData` for no poses."
-unfoldable pub averageIsometries? : List Pose → Result Error Pose
-averageIsometries? [] = err insufficientData
-averageIsometries? (p ∷ poses) = ok (averageIsometries (p ∷ poses))
 
 -- The key `(std::cmp::Reverse(n), p)` of the first pair is below that of the second: more shared views, or as many and a lower index.
 unfoldable pub keyBelow : ℕ × ℕ → ℕ × ℕ → Bool

@@ -45,6 +45,12 @@ infixl 90 _‼_
 abbrev pub _‼_ : {A : Type 0} → List (Option A) → ℕ → Option A
 list ‼ i = getD list i none
 
+-- `list[i]` of any list, which panics where i is not below the length.
+unfoldable pub index : {E A : Type 0} → List A → ℕ → Result E A
+index [] i = neither
+index (a ∷ rest) zero = ok a
+index (a ∷ rest) (suc i) = index rest i
+
 abbrev pub isEmpty : {A : Type 0} → List A → Bool
 isEmpty [] = true
 isEmpty (a ∷ rest) = false

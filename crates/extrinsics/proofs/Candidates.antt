@@ -3,7 +3,11 @@ use Prim.Native.Nat.{ℕ, _<_}
 use mathlib.Core.Path.{_≡_, ap, ap₂}
 use mathlib.Core.List.{List}
 use lib.Ieee.{Float}
-use Rattle.extrinsics.specs.Estimate.{linkCandidate, linkCandidates, targetCandidate, targetCandidates, rigSe3Cam, gather}
+use Rattle.arithmetic.specs.declared.pose.Pose.{Pose}
+use Rattle.average.specs.Average.{averageIsometries}
+use Rattle.extrinsics.specs.Grid.{Grid, cellOf}
+use Rattle.extrinsics.specs.Estimate.{linkCandidate, linkCandidates, targetCandidate, targetCandidatesFrom, rigSe3TargetFrom}
+use Rattle.lists.specs.Lists.{gather}
 use Rattle.extrinsics.specs.Rig.{rigCell, rigGrid}
 use Rattle.extrinsics.specs.declared.grid.Rig.{Rig}
 use Rattle.extrinsics.proofs.ViewCells.{cellOf-rigCell}
@@ -16,8 +20,15 @@ module _ (r : Rig) (floats : List Float) where
   linkCandidates-rigCell p c h k =
       gather-agree (r .views) _ _ (λ v l. ap₂ linkCandidate (cellOf-rigCell r floats v p l h) (cellOf-rigCell r floats v c l k))
 
-  pub targetCandidates-rigCell : (v : ℕ) → v < r .views
-      → targetCandidates (rigGrid r floats) v ≡ gather (r .cameras) (λ c. targetCandidate (rigSe3Cam (rigGrid r floats) c) (rigCell r floats v c))
-  unfolding targetCandidates rigGrid
-  targetCandidates-rigCell v h =
-      gather-agree (r .cameras) _ _ (λ c k. ap (targetCandidate (rigSe3Cam (rigGrid r floats) c)) (cellOf-rigCell r floats v c h k))
+  pub targetCandidates-rigCell : (poses : ℕ → Pose) (v : ℕ) → v < r .views
+      → targetCandidatesFrom (rigGrid r floats) poses v ≡ gather (r .cameras) (λ c. targetCandidate (poses c) (rigCell r floats v c))
+  unfolding targetCandidatesFrom rigGrid
+  targetCandidates-rigCell poses v h =
+      gather-agree (r .cameras) _ _ (λ c k. ap (targetCandidate (poses c)) (cellOf-rigCell r floats v c h k))
+
+-- Only the poses of the rig's cameras matter to a view's target pose.
+pub rigSe3TargetFrom-agree : (g : Grid) (poses poses′ : ℕ → Pose) (v : ℕ) → ((c : ℕ) → c < g .cameras → poses c ≡ poses′ c)
+    → rigSe3TargetFrom g poses v ≡ rigSe3TargetFrom g poses′ v
+unfolding rigSe3TargetFrom targetCandidatesFrom
+rigSe3TargetFrom-agree g poses poses′ v same =
+    ap averageIsometries (gather-agree (g .cameras) _ _ (λ c h. ap (λ (p : Pose). targetCandidate p (cellOf g v c)) (same c h)))

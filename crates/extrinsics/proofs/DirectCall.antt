@@ -1,6 +1,6 @@
 -- The direct call: what its passed checks have shown, and how its outcome follows from the checks and from the grid of its masks.
 -- Assumes nothing.
-use Prim.Native.Nat.{ℕ, _+_, _*_, _≤_, _<_}
+use Prim.Native.Nat.{ℕ, _≤_, _<_}
 use mathlib.Core.Path.{_≡_, refl, sym, ap, _∙_, subst}
 use mathlib.Core.Option.{Option, none, some}
 use mathlib.Core.List.{List, [], _∷_}
@@ -11,6 +11,7 @@ use lib.Ieee.{Float}
 use Rattle.refusal.specs.Table.{firstOf}
 use Rattle.refusal.specs.declared.Refusal.{Refusal}
 use Rattle.refusal.specs.declared.Refusal.the-variants.{BadMark}
+use Rattle.limits.specs.Limits.{firstNeeds, secondNeeds}
 use Rattle.extrinsics.specs.Grid.{Grid}
 use Rattle.extrinsics.specs.Outcome.{gridRefusal, Answers}
 use Rattle.inputs.specs.Inputs.{sizeRefusal, countRefusal, lengthRefusal, lowestBadMark, markRefusal, cellCount, inputRefusal, maskOf}
@@ -19,7 +20,7 @@ use Rattle.extrinsics.specs.Rig.{rigGrid, Fitting}
 use Rattle.extrinsics.specs.declared.Outcome.{Outcome}
 use Rattle.extrinsics.specs.declared.Outcome.the-variants.{Refused}
 use Rattle.inputs.proofs.Answering.{firstOf-some, firstOf-none, firstOf-none-all, AllNone, refuseAt-nothing, Sizes, sizeRefusal-none, Lengths, lengthRefusal-none}
-use Rattle.inputs.proofs.Lowest.{lowest-none-fails}
+use Rattle.lists.proofs.Lowest.{lowest-none-fails}
 use Rattle.extrinsics.proofs.MarkedGrid.{denseRig, fitting-denseRig, rigGrid-directGrid}
 use Rattle.extrinsics.proofs.Solving.{answers-refused}
 
@@ -88,11 +89,11 @@ module _ (counts marks : List ℕ) (floats : List Float) (reference : ℕ) (firs
     made-0 : (c : ℕ) → c < getD counts 0 0 → getD masks c 0 ≡ maskOf marks (getD counts 0 0) (length counts) c
     made-0 = subst (λ (k : ℕ). (c : ℕ) → c < k → getD masks c 0 ≡ maskOf marks k (length counts) c) view-0 made
 
-    pub direct-fitting : Fitting (denseRig masks (length counts) n reference) floats × (7 * (n + length counts) ≤ length first) × (2 * n ≤ length second)
+    pub direct-fitting : Fitting (denseRig masks (length counts) n reference) floats × (firstNeeds n (length counts) ≤ length first) × (secondNeeds n ≤ length second)
     direct-fitting =
         let sizes = input-sizes counts marks (length floats) reference (length first) (length second) passed in
         let lengths = input-lengths counts marks (length floats) reference (length first) (length second) passed in
-        subst (λ (k : ℕ). Fitting (denseRig masks (length counts) k reference) floats × (7 * (k + length counts) ≤ length first) × (2 * k ≤ length second))
+        subst (λ (k : ℕ). Fitting (denseRig masks (length counts) k reference) floats × (firstNeeds k (length counts) ≤ length first) × (secondNeeds k ≤ length second))
         (sym view-0) (
           fitting-denseRig marks masks floats (length counts) (getD counts 0 0) reference made-0 (sizes .views-fit) (sizes .cameras-fit) (sizes .reference-inside)
               (lengths .floats-fit),

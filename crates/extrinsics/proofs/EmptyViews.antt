@@ -7,13 +7,13 @@ use mathlib.Core.Option.{Option, none, some}
 use mathlib.Core.List.{List}
 use lib.Dec.{T}
 use lib.Ieee.{Float}
-use Rattle.chains.specs.Masks.{inMask}
+use Rattle.lists.specs.Masks.{inMask}
 use Rattle.extrinsics.specs.Grid.{holds}
 use Rattle.extrinsics.specs.Rig.{rigGrid}
-use Rattle.inputs.specs.Finding.{lowest}
+use Rattle.lists.specs.Finding.{lowest}
 use Rattle.extrinsics.specs.Outcome.{isEmptyView}
 use Rattle.extrinsics.specs.declared.grid.Rig.{Rig}
-use Rattle.inputs.proofs.Lowest.{lowest-passes, lowest-none-fails}
+use Rattle.lists.proofs.Lowest.{lowest-passes, lowest-none-fails}
 use Rattle.extrinsics.proofs.MaskUnion.{InOneOf}
 use Rattle.extrinsics.proofs.ViewCells.{holds-inMask}
 

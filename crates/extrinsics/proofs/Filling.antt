@@ -9,7 +9,7 @@ use mathlib.Core.List.{List, _++_, append-assoc, append-nil}
 use borrow.Rule.Slice.PartMut.{midOf, putMid}
 use lib.ListN.{length, take, drop, length-append, length-drop, drop-of-length-le}
 use lib.Seq.{take-all, take-at, drop-at, drop-drop}
-use Rattle.extrinsics.specs.Estimate.{gather}
+use Rattle.lists.specs.Lists.{gather}
 
 module _ {A : Type 0} where
   -- The part from `at` on, with the block in front of it.

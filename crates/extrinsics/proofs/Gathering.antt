@@ -9,7 +9,8 @@ use lib.ListN.{length, length-append}
 use Rattle.average.specs.Average.{plusPose, taken}
 use Rattle.arithmetic.specs.declared.pose.Pose.{Pose}
 use Rattle.average.proofs.Averaging.{taken-append}
-use Rattle.extrinsics.specs.Estimate.{gather, linkCandidate, targetCandidate}
+use Rattle.lists.specs.Lists.{gather}
+use Rattle.extrinsics.specs.Estimate.{linkCandidate, targetCandidate}
 use Rattle.extrinsics.specs.declared.grid.Cell.{Cell}
 use Rattle.extrinsics.specs.declared.grid.Cell.the-variants.{Empty, Held}
 

@@ -3,6 +3,7 @@ pub mod Filling
 pub mod Gathering
 pub mod Candidates
 pub mod RigPoses
+pub mod Rooting
 pub mod LayerPoses
 pub mod ViewCells
 pub mod MaskUnion

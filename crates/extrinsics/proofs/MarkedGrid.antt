@@ -1,22 +1,19 @@
 -- The rig whose masks the marks make is the grid of the marks.
 -- Assumes nothing.
-use Prim.Native.Nat.{ℕ, zero, suc, _+_, _-_, _*_, _/_, _%_, _^_, _≤_, _<_}
-use native.Mathlib.Nat.{eq-or-lt-of-le, le-of-suc-le-suc, eq-zero-or-pos, mod-lt, div-add-mod', div-lt-iff-lt-mul, add-mul-mod-self-right}
-use native.Mathlib.Numerals.{add-one}
+use Prim.Native.Nat.{ℕ, _-_, _*_, _/_, _%_, _≤_, _<_}
+use native.Mathlib.Nat.{eq-zero-or-pos, mod-lt, div-add-mod', div-lt-iff-lt-mul}
 use native.Mathlib.Omega.{arith}
-use mathlib.Core.Path.{_≡_, refl, sym, ap, _∙_}
+use mathlib.Core.Path.{_≡_, refl, ap, _∙_}
 use mathlib.Core.Logic.{⊎-elim}
 use mathlib.Core.Bool.{Bool, true, false, not, cond}
 use mathlib.Core.List.{List}
 use lib.ListN.{length, getD}
 use lib.Dec.{eqb}
 use lib.Ieee.{Float}
-use lib.Pow.{pow-add, high, field}
-use borrow.Author.Tests.{eq-eqb, ne-eqb}
 use Rattle.arithmetic.specs.Pose.{poseAt}
-use Rattle.chains.specs.Limits.{maxViews, maxCameras}
+use Rattle.limits.specs.Limits.{maxViews, maxCameras}
 use Rattle.extrinsics.specs.Grid.{Grid}
-use Rattle.chains.specs.Masks.{inMask}
+use Rattle.lists.specs.Masks.{inMask}
 use Rattle.inputs.specs.Inputs.{maskOf}
 use Rattle.extrinsics.specs.Direct.{markedCell, directGrid}
 use Rattle.extrinsics.specs.Rig.{maskedCell, rigCell, rigGrid, Fitting}
@@ -24,7 +21,7 @@ use Rattle.extrinsics.specs.declared.grid.Cell.{Cell}
 use Rattle.extrinsics.specs.declared.grid.Cell.the-variants.{Empty, Held}
 use Rattle.extrinsics.specs.declared.grid.Rig.{Rig}
 use Rattle.inputs.proofs.MarkedMasks.{maskOf-below, inMask-maskOf}
-use Rattle.chains.proofs.Tabulated.{tabulate-agree}
+use Rattle.lists.proofs.Tabulated.{tabulate-agree}
 
 -- The poses of one view follow those of the view before.
 abbrev pub denseRig : List ℕ → ℕ → ℕ → ℕ → Rig

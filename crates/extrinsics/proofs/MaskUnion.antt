@@ -9,7 +9,7 @@ use mathlib.Core.List.{List}
 use lib.ListN.{getD}
 use lib.Dec.{T, eqb}
 use lib.Bits.{bitOr, or-step, or-shr}
-use Rattle.chains.specs.Masks.{inMask}
+use Rattle.lists.specs.Masks.{inMask}
 
 bit-or : (a b v : ℕ) → bitOr a b / 2 ^ v % 2 ≡ max (a / 2 ^ v % 2) (b / 2 ^ v % 2)
 bit-or a b v = rw (or-shr a b v) (go (a / 2 ^ v) (b / 2 ^ v))

@@ -7,11 +7,11 @@ use mathlib.Core.Bool.{not}
 use lib.ListN.{getD}
 use lib.Dec.{eqb}
 use borrow.Author.Tests.{ne-eqb}
-use Rattle.chains.specs.Limits.{maxCameras, notPlacedByte}
+use Rattle.limits.specs.Limits.{maxCameras, oneView, notPlacedByte}
 use Rattle.chains.specs.Layers.{Spot, notPlaced, placed, isPlaced, spotAt}
 use Rattle.extrinsics.specs.Grid.{Grid, sharedViews, spots, hasPlace}
 use Rattle.chains.specs.Trees.{linksByte, treeOf}
-use Rattle.chains.proofs.Tabulated.{getD-tabulate}
+use Rattle.lists.proofs.Tabulated.{getD-tabulate}
 use Rattle.chains.proofs.Theorem.{placed-final}
 
 module _ (g : Grid) (fits : g .cameras ≤ maxCameras) (c : ℕ) (inside : c < g .cameras) where
@@ -26,4 +26,4 @@ module _ (g : Grid) (fits : g .cameras ≤ maxCameras) (c : ℕ) (inside : c < g
       go : (s : Spot) → spotAt (spots g) c ≡ s → eqb (linksByte s) notPlacedByte ≡ not (isPlaced s)
       go notPlaced e = refl
       go (placed p d) e =
-          ne-eqb d notPlacedByte (omega (arith, placed-final (g .cameras) (sharedViews g) (g .reference) c p d inside e .0))
+          ne-eqb d notPlacedByte (omega (arith, placed-final (g .cameras) (sharedViews g) oneView (g .reference) c p d inside e .0))

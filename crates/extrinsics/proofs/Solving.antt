@@ -1,6 +1,6 @@
 -- The answer of an estimate on a grid: which refusal comes first, what a refusal leaves, what a solved rig leaves, and that the tree of a rig's masks is the tree of its grid.
 -- Assumes nothing.
-use Prim.Native.Nat.{ℕ, zero, suc, _+_, _*_, _%_, _^_, _≤_, _<_}
+use Prim.Native.Nat.{ℕ, zero, suc, _+_, _%_, _^_, _≤_, _<_}
 use native.Mathlib.Nat.{lt-of-lt-of-le, div-eq-of-lt, eq-or-lt-of-le, le-of-suc-le-suc}
 use native.Mathlib.Omega.{arith}
 use mathlib.Core.Path.{_≡_, refl, sym, ap, _∙_, subst}
@@ -17,19 +17,23 @@ use Rattle.arithmetic.specs.Pose.{flat}
 use Rattle.refusal.specs.Table.{refuseIf, firstOf}
 use Rattle.refusal.specs.declared.Refusal.{Refusal}
 use Rattle.refusal.specs.declared.Refusal.the-variants.{NotFinite, Unreached, EmptyView}
-use Rattle.chains.specs.Masks.{inMask, sharedBy}
+use Rattle.limits.specs.Limits.{oneView, firstNeeds, secondNeeds}
+use Rattle.lists.specs.Masks.{inMask}
+use Rattle.chains.specs.Masks.{sharedBy}
 use Rattle.chains.specs.Layers.{layers}
 use Rattle.extrinsics.specs.Grid.{Grid, holds, spots, hasPlace, parent, linkCount}
-use Rattle.extrinsics.specs.Estimate.{gather, transforms, chains, rigSe3Cam, rigSe3Target}
-use Rattle.inputs.specs.Finding.{powerSum}
+use Rattle.lists.specs.Lists.{gather}
+use Rattle.extrinsics.specs.Estimate.{transforms, chains, rigSe3Cam, rigSe3Target}
+use Rattle.lists.specs.Finding.{powerSum}
 use Rattle.extrinsics.specs.Outcome.{lowestNotFinite, notFinite, unreachedSet, unreached, lowestEmptyView, emptyView, gridRefusal, outcomeOf, answered, Answers}
 use Rattle.extrinsics.specs.Rig.{rigGrid, Fitting}
-use Rattle.extrinsics.specs.Placed.{AllPlaced, Written}
+use Rattle.extrinsics.specs.Placed.{Written}
 use Rattle.extrinsics.specs.declared.Outcome.the-variants.{Refused, Solved}
 use Rattle.extrinsics.specs.declared.grid.Rig.{Rig}
 use Rattle.extrinsics.proofs.Filling.{length-gather}
 use Rattle.chains.proofs.Reading.{layers-of-masks}
 use Rattle.extrinsics.proofs.ViewCells.{holds-inMask}
+use Rattle.extrinsics.proofs.Rooting.{AllPlaced}
 use Rattle.inputs.proofs.Answering.{refuseAt-some, refuseAt-none, firstOf-some, firstOf-none}
 
 -- ---- the tree of a rig
@@ -40,10 +44,10 @@ unfolding inMask
 inMask-past mask n v h l = ap (λ (q : ℕ). eqb (q % 2) 1) (div-eq-of-lt (lt-of-lt-of-le h (pow-mono l)))
 
 pub spots-masks : (r : Rig) (floats : List Float) → Fitting r floats
-    → layers (r .cameras) (sharedBy (r .masks)) (r .reference) ≡ spots (rigGrid r floats)
+    → layers (r .cameras) (sharedBy (r .masks)) oneView (r .reference) ≡ spots (rigGrid r floats)
 unfolding spots rigGrid
 spots-masks r floats fit =
-    layers-of-masks (r .masks) (holds (rigGrid r floats)) (r .cameras) (r .views) (r .reference) (fit .views-fit)
+    layers-of-masks (r .masks) (holds (rigGrid r floats)) (r .cameras) (r .views) oneView (r .reference) (fit .views-fit)
     (λ c v h k. sym (holds-inMask r floats v c k h)) (λ c v h l k. inMask-past (getD (r .masks) c 0) (r .views) v (fit .masks-fit c h) l)
 
 -- ---- which refusal comes first
@@ -114,7 +118,7 @@ module _ (refusal : Option Refusal) (g : Grid) (first : List Float) (second : Li
         second-answer = sym (ap (λ (o : Option Refusal). answered o (chains g) second) e);
       }
 
-  length-transforms : length (transforms g) ≡ 7 * (g .cameras + g .views)
+  length-transforms : length (transforms g) ≡ firstNeeds (g .cameras) (g .views)
   unfolding transforms
   length-transforms =
       length-append (gather (g .cameras) (λ c. flat (rigSe3Cam g c))) (gather (g .views) (λ v. flat (rigSe3Target g v)))
@@ -124,13 +128,13 @@ module _ (refusal : Option Refusal) (g : Grid) (first : List Float) (second : Li
         length-gather (λ v. flat (rigSe3Target g v)) 7 (λ i. refl) (g .views),
       )
 
-  length-chains : length (chains g) ≡ 2 * g .cameras
+  length-chains : length (chains g) ≡ secondNeeds (g .cameras)
   unfolding chains
   length-chains = length-gather (λ c. parent g c ∷ linkCount g c ∷ []) 2 (λ i. refl) (g .cameras)
 
-  pub answers-solved : (first′ : List Float) (second′ : List ℕ) → refusal ≡ none → Written g first second first′ second′
+  pub answers-solved : (first′ : List Float) (second′ : List ℕ) → refusal ≡ none → Written g (parent g) (linkCount g) first second first′ second′
       → Answers refusal g first second Solved first′ second′
-  unfolding outcomeOf answered
+  unfolding outcomeOf answered transforms chains
   answers-solved first′ second′ e written =
       record {
         outcome = sym (ap outcomeOf e);

@@ -10,13 +10,13 @@ use mathlib.Core.List.{List}
 use lib.ListN.{length, getD}
 use lib.Ieee.{Float}
 use Rattle.arithmetic.specs.declared.pose.Pose.{Pose}
-use Rattle.chains.specs.Limits.{maxViews, maxCameras}
-use Rattle.chains.specs.Masks.{inMask}
+use Rattle.limits.specs.Limits.{maxViews, maxCameras}
+use Rattle.lists.specs.Masks.{inMask}
 use Rattle.extrinsics.specs.Grid.{isHeld, cellOf, holds}
 use Rattle.extrinsics.specs.Rig.{maskedCell, rigCell, rigGrid, Fitting}
 use Rattle.extrinsics.specs.declared.grid.Cell.the-variants.{Empty, Held}
 use Rattle.extrinsics.specs.declared.grid.Rig.{Rig}
-use Rattle.chains.proofs.Tabulated.{getD-tabulate}
+use Rattle.lists.proofs.Tabulated.{getD-tabulate}
 
 -- ---- rows of n: number v * n + c is the c-th of row v
 

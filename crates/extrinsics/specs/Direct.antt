@@ -10,7 +10,7 @@ use lib.Ieee.{Float}
 use Rattle.arithmetic.specs.Pose.{poseAt}
 use Rattle.refusal.specs.Table.{firstOf}
 use Rattle.refusal.specs.declared.Refusal.{Refusal}
-use Rattle.chains.specs.Layers.{tabulate}
+use Rattle.lists.specs.Lists.{tabulate}
 use Rattle.extrinsics.specs.Grid.{Grid}
 use Rattle.inputs.specs.Inputs.{cellCount, inputRefusal}
 use Rattle.extrinsics.specs.Outcome.{gridRefusal, Answers}

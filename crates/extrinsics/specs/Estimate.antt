@@ -1,5 +1,6 @@
 -- The poses of a solved rig, by document 01, "Chains": averaged links, rig poses of cameras (T_R_C) and target poses of views (T_R_T).
--- Rests on the averages and products of `average` and `arithmetic`, and the spots of `Grid`.
+-- They are stated over any tree of cameras; the layers make one. Rests on the averages and products of `average` and `arithmetic`, and
+-- the spots of `Grid`.
 use Prim.Native.Nat.{ℕ, zero, suc}
 use mathlib.Core.List.{List, [], _∷_, _++_}
 use lib.Ieee.{Float}
@@ -9,11 +10,7 @@ use Rattle.arithmetic.specs.declared.pose.Pose.{Pose}
 use Rattle.extrinsics.specs.Grid.{Grid, cellOf, parent, linkCount}
 use Rattle.extrinsics.specs.declared.grid.Cell.{Cell}
 use Rattle.extrinsics.specs.declared.grid.Cell.the-variants.{Empty, Held}
-
--- The lists f 0 to f (n - 1), one after the other.
-unfoldable pub gather {ℓ} : {A : Type ℓ} → ℕ → (ℕ → List A) → List A
-gather zero f = []
-gather (suc n) f = gather n f ++ f n
+use Rattle.lists.specs.Lists.{gather}
 
 -- "parent's target pose × inverse of the camera's target pose": T_Cp_C = T_Cp_T × (T_C_T)⁻¹, where the view holds both.
 unfoldable pub linkCandidate : Cell → Cell → List Pose
@@ -37,32 +34,57 @@ module _ (g : Grid) where
   unfolding linkCandidates
   averagedLink p c = averageIsometries (linkCandidates p c)
 
-  -- The pose at the end of so many links: "multiplying it by the parent's rig pose from the left gives the camera's rig pose".
-  unfoldable pub poseAfter : ℕ → ℕ → Pose
-  unfolding averagedLink
-  poseAfter zero c = identityPose
-  poseAfter (suc n) c = mulPose (poseAfter n (parent g c)) (averagedLink (parent g c) c)
+  -- "A view's target pose averages rig pose × target pose over its cameras, ascending", whatever poses the cameras have.
+  unfoldable pub targetCandidatesFrom : (ℕ → Pose) → ℕ → List Pose
+  unfolding gather targetCandidate
+  targetCandidatesFrom poses v = gather (g .cameras) (λ c. targetCandidate (poses c) (cellOf g v c))
 
-  -- It is read only where every camera is placed: a camera without a chain is refused by 8, and has no pose.
+  unfoldable pub rigSe3TargetFrom : (ℕ → Pose) → ℕ → Pose
+  unfolding targetCandidatesFrom
+  rigSe3TargetFrom poses v = averageIsometries (targetCandidatesFrom poses v)
+
+  -- ---- over any tree of cameras: the parent of each, and its number of links to the reference
+
+  module _ (parents : ℕ → ℕ) where
+    -- The pose at the end of so many links: "multiplying it by the parent's rig pose from the left gives the camera's rig pose".
+    unfoldable pub poseAfter : ℕ → ℕ → Pose
+    unfolding averagedLink
+    poseAfter zero c = identityPose
+    poseAfter (suc n) c = mulPose (poseAfter n (parents c)) (averagedLink (parents c) c)
+
+    module _ (linkCounts : ℕ → ℕ) where
+      unfoldable pub rigSe3CamIn : ℕ → Pose
+      unfolding poseAfter
+      rigSe3CamIn c = poseAfter (linkCounts c) c
+
+      -- The first answer: cameras first, then views, seven floats each.
+      unfoldable pub transformsIn : List Float
+      unfolding gather rigSe3CamIn rigSe3TargetFrom
+      transformsIn = gather (g .cameras) (λ c. flat (rigSe3CamIn c)) ++ gather (g .views) (λ v. flat (rigSe3TargetFrom rigSe3CamIn v))
+
+      -- The second answer: a parent and a link count for each camera.
+      unfoldable pub chainsIn : List ℕ
+      unfolding gather
+      chainsIn = gather (g .cameras) (λ c. parents c ∷ linkCounts c ∷ [])
+
+  -- ---- over the tree that the layers make: read only where every camera is placed, for a camera without a chain is refused by 8
+
   unfoldable pub rigSe3Cam : ℕ → Pose
-  unfolding poseAfter
-  rigSe3Cam c = poseAfter (linkCount g c) c
+  unfolding rigSe3CamIn
+  rigSe3Cam c = rigSe3CamIn (parent g) (linkCount g) c
 
-  -- "A view's target pose averages rig pose × target pose over its cameras, ascending."
   unfoldable pub targetCandidates : ℕ → List Pose
-  unfolding gather targetCandidate rigSe3Cam
-  targetCandidates v = gather (g .cameras) (λ c. targetCandidate (rigSe3Cam c) (cellOf g v c))
+  unfolding targetCandidatesFrom rigSe3Cam
+  targetCandidates v = targetCandidatesFrom rigSe3Cam v
 
   unfoldable pub rigSe3Target : ℕ → Pose
-  unfolding targetCandidates
+  unfolding rigSe3TargetFrom targetCandidates
   rigSe3Target v = averageIsometries (targetCandidates v)
 
-  -- The first answer: cameras first, then views, seven floats each.
   unfoldable pub transforms : List Float
-  unfolding gather rigSe3Cam rigSe3Target
-  transforms = gather (g .cameras) (λ c. flat (rigSe3Cam c)) ++ gather (g .views) (λ v. flat (rigSe3Target v))
+  unfolding transformsIn rigSe3Cam rigSe3Target
+  transforms = transformsIn (parent g) (linkCount g)
 
-  -- The second answer: a parent and a link count for each camera.
   unfoldable pub chains : List ℕ
-  unfolding gather
-  chains = gather (g .cameras) (λ c. parent g c ∷ linkCount g c ∷ [])
+  unfolding chainsIn
+  chains = chainsIn (parent g) (linkCount g)

@@ -4,6 +4,7 @@ use Prim.Native.Nat.{ℕ, _+_, _*_}
 use mathlib.Core.Bool.{Bool, true, false}
 use mathlib.Core.List.{List}
 use lib.ListN.{getD}
+use Rattle.limits.specs.Limits.{oneView}
 use Rattle.chains.specs.Shared.{shared}
 use Rattle.chains.specs.Layers.{Spot, layers, spotAt, isPlaced, parentOf, linksOf}
 use Rattle.extrinsics.specs.declared.grid.Cell.{Cell}
@@ -31,9 +32,9 @@ module _ (g : Grid) where
   abbrev pub sharedViews : ℕ → ℕ → ℕ
   sharedViews a b = shared holds (g .views) a b
 
-  -- How the layers place each camera.
+  -- How the layers place each camera, one shared view making a link.
   unfoldable pub spots : List Spot
-  spots = layers (g .cameras) sharedViews (g .reference)
+  spots = layers (g .cameras) sharedViews oneView (g .reference)
 
   abbrev pub hasPlace : ℕ → Bool
   hasPlace c = isPlaced (spotAt spots c)

@@ -12,7 +12,7 @@ use Rattle.arithmetic.specs.Pose.{finitePose}
 use Rattle.refusal.specs.Table.{refuseIf, refuseAt, firstOf}
 use Rattle.refusal.specs.declared.Refusal.{Refusal}
 use Rattle.refusal.specs.declared.Refusal.the-variants.{NotFinite, Unreached, EmptyView}
-use Rattle.inputs.specs.Finding.{lowest, powerSum}
+use Rattle.lists.specs.Finding.{lowest, powerSum}
 use Rattle.extrinsics.specs.Grid.{Grid, holds, hasPlace}
 use Rattle.extrinsics.specs.Estimate.{transforms, chains}
 use Rattle.extrinsics.specs.declared.grid.Cell.{Cell}

@@ -6,9 +6,9 @@ use mathlib.Core.List.{List}
 use lib.ListN.{length, getD}
 use lib.Ieee.{Float}
 use Rattle.arithmetic.specs.Pose.{poseAt}
-use Rattle.chains.specs.Limits.{maxViews, maxCameras}
-use Rattle.chains.specs.Masks.{inMask}
-use Rattle.chains.specs.Layers.{tabulate}
+use Rattle.limits.specs.Limits.{maxViews, maxCameras}
+use Rattle.lists.specs.Masks.{inMask}
+use Rattle.lists.specs.Lists.{tabulate}
 use Rattle.extrinsics.specs.Grid.{Grid}
 use Rattle.extrinsics.specs.declared.grid.Cell.{Cell}
 use Rattle.extrinsics.specs.declared.grid.Cell.the-variants.{Empty, Held}

@@ -1,20 +1,24 @@
 // The two lent answers of a solved rig: the transforms of cameras and then of views, and the chains.
-ghost use Prim.Native.Nat.{ℕ, _*_, _≤_};
+ghost use Prim.Native.Nat.{_*_, _≤_};
 ghost use mathlib.Core.Path.{_≡_};
 ghost use mathlib.Core.List.{[], _∷_, _++_};
 ghost use lib.ListN.{length, getD, drop};
 ghost use Rattle.arithmetic.specs.Pose.{flat};
-ghost use Rattle.extrinsics.specs.Estimate.{gather, rigSe3Target};
+ghost use Rattle.limits.specs.Limits.{secondNeeds};
+ghost use Rattle.lists.specs.Lists.{gather};
+ghost use Rattle.extrinsics.specs.Estimate.{rigSe3TargetFrom};
 ghost use Rattle.extrinsics.specs.Rig.{rigGrid, Fitting};
-ghost use Rattle.extrinsics.specs.Placed.{PlacedAll, nowhere};
+ghost use Rattle.extrinsics.specs.Placed.{nowhere};
 use crate::grid::Rig;
 use crate::grid::read_cell;
 use crate::poses::add_target;
-use arithmetic::pose::POSE_FLOATS;
 use arithmetic::pose::Pose;
 use average::Average;
-use chains::MAX_CAMERAS;
 use chains::Tree;
+use limits::CHAIN_BYTES;
+use limits::LINKS_PLACE;
+use limits::MAX_CAMERAS;
+use limits::POSE_FLOATS;
 
 // Each camera's seven numbers go into the part of the answer that begins at 7 times its index.
 pub(crate) fn write_cameras(rig_se3_cam: [Pose; MAX_CAMERAS], cameras: usize, answer: &mut [f64])
@@ -37,8 +41,8 @@ pub(crate) fn write_targets(
     rig_se3_cam: [Pose; MAX_CAMERAS],
     answer: &mut [f64],
 )
-    requires { ⌜ Fitting rig (now floats) × PlacedAll (rigGrid rig (now floats)) «rig_se3_cam» × (7 * rig .views ≤ length (now answer)) ⌝ }
-    ensures { λ _. ⌜ now (answer .exit) ≡ gather (rig .views) (λ v. flat (rigSe3Target (rigGrid rig (now (floats .entry))) v)) ++ drop (7 * rig .views) (now (answer .entry)) ⌝ }
+    requires { ⌜ Fitting rig (now floats) × (7 * rig .views ≤ length (now answer)) ⌝ }
+    ensures { λ _. ⌜ now (answer .exit) ≡ gather (rig .views) (λ v. flat (rigSe3TargetFrom (rigGrid rig (now (floats .entry))) (λ c. getD «rig_se3_cam» c nowhere) v)) ++ drop (7 * rig .views) (now (answer .entry)) ⌝ }
 {
     let views = rig.views;
     let cameras = rig.cameras;
@@ -62,13 +66,13 @@ pub(crate) fn write_targets(
 
 // A parent and a link count for each camera.
 pub(crate) fn write_chains(tree: Tree, cameras: usize, answer: &mut [u8])
-    requires { ⌜ (cameras ≤ 16) × (2 * cameras ≤ length (now answer)) ⌝ }
-    ensures { λ _. ⌜ now (answer .exit) ≡ gather cameras (λ c. getD (tree .parent) c 0 ∷ getD (tree .links) c 0 ∷ []) ++ drop (2 * cameras) (now (answer .entry)) ⌝ }
+    requires { ⌜ (cameras ≤ 16) × (secondNeeds cameras ≤ length (now answer)) ⌝ }
+    ensures { λ _. ⌜ now (answer .exit) ≡ gather cameras (λ c. getD (tree .parent) c 0 ∷ getD (tree .links) c 0 ∷ []) ++ drop (secondNeeds cameras) (now (answer .entry)) ⌝ }
 {
     let mut camera = 0;
     while camera < cameras {
-        answer[2 * camera] = tree.parent[camera];
-        answer[2 * camera + 1] = tree.links[camera];
+        answer[CHAIN_BYTES * camera] = tree.parent[camera];
+        answer[CHAIN_BYTES * camera + LINKS_PLACE] = tree.links[camera];
         camera += 1;
     }
 }

@@ -2,11 +2,14 @@
 ghost use Prim.Native.Nat.{ℕ, _≤_, _<_};
 ghost use mathlib.Core.Path.{_≡_};
 ghost use mathlib.Core.Logic.{_↔_};
+ghost use mathlib.Core.List.{List};
 ghost use lib.ListN.{getD};
 ghost use lib.Dec.{T};
+ghost use lib.Ieee.{Float};
 ghost use Rattle.extrinsics.specs.Grid.{spots};
+ghost use Rattle.limits.specs.Limits.{maxViews, maxCameras};
 ghost use Rattle.chains.specs.Trees.{treeOf};
-ghost use Rattle.chains.specs.Masks.{inMask};
+ghost use Rattle.lists.specs.Masks.{inMask};
 ghost use Rattle.extrinsics.specs.Rig.{rigGrid, Fitting};
 ghost use Rattle.inputs.specs.Finding.{foundOf};
 ghost use Rattle.extrinsics.specs.Outcome.{lowestNotFinite, unreachedSet, lowestEmptyView, isNotFinite};
@@ -50,10 +53,10 @@ pub(crate) fn find_not_finite(rig: Rig, floats: &[f64]) -> Found
     Found::Nothing
 }
 
-// The cameras that no chain ties to the reference, as a sum of powers of two.
-pub(crate) fn unreached_cameras(rig: Rig, floats: &[f64], tree: Tree) -> u32
-    requires { ⌜ Fitting rig (now floats) × (tree ≡ treeOf (spots (rigGrid rig (now floats)))) ⌝ }
-    ensures { λ r. ⌜ r ≡ unreachedSet (rigGrid rig (now (floats .entry))) ⌝ }
+// The cameras that no chain ties to the reference, as a sum of powers of two, whatever the numbers of the poses.
+pub(crate) fn unreached_cameras(rig: Rig, tree: Tree) -> u32
+    requires { ⌜ rig .cameras ≤ maxCameras ⌝ }
+    ensures { λ r. ⌜ ((floats : List Float) → tree ≡ treeOf (spots (rigGrid rig floats)) → r ≡ unreachedSet (rigGrid rig floats)) ⌝ }
 {
     let cameras = rig.cameras;
     let mut set = 0u32;
@@ -69,7 +72,7 @@ pub(crate) fn unreached_cameras(rig: Rig, floats: &[f64], tree: Tree) -> u32
 
 // The views that any camera holds a pose in, as bits.
 fn held_views(rig: Rig) -> u64
-    requires { ⌜ rig .cameras ≤ 16 ⌝ }
+    requires { ⌜ rig .cameras ≤ maxCameras ⌝ }
     ensures { λ r. ⌜ ((v : ℕ) → T (inMask r v) ↔ ((c : ℕ) × (c < rig .cameras) × T (inMask (getD (rig .masks) c 0) v))) ⌝ }
 {
     let cameras = rig.cameras;
@@ -82,10 +85,10 @@ fn held_views(rig: Rig) -> u64
     held
 }
 
-// The lowest view that holds no pose.
-pub(crate) fn find_empty_view(rig: Rig, floats: &[f64]) -> Found
-    requires { ⌜ Fitting rig (now floats) ⌝ }
-    ensures { λ r. ⌜ r ≡ foundOf (lowestEmptyView (rigGrid rig (now (floats .entry)))) ⌝ }
+// The lowest view that holds no pose, whatever the numbers of the poses.
+pub(crate) fn find_empty_view(rig: Rig) -> Found
+    requires { ⌜ (rig .cameras ≤ maxCameras) × (rig .views ≤ maxViews) ⌝ }
+    ensures { λ r. ⌜ ((floats : List Float) → r ≡ foundOf (lowestEmptyView (rigGrid rig floats))) ⌝ }
 {
     let views = rig.views;
     let held = held_views(rig);

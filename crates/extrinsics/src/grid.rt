@@ -3,9 +3,9 @@ ghost use Prim.Native.Nat.{_+_, _*_, _≤_, _<_};
 ghost use mathlib.Core.Path.{_≡_};
 ghost use lib.ListN.{length};
 ghost use Rattle.extrinsics.specs.Rig.{maskedCell};
-use arithmetic::pose::POSE_FLOATS;
 use arithmetic::pose::Pose;
-use chains::MAX_CAMERAS;
+use limits::MAX_CAMERAS;
+use limits::POSE_FLOATS;
 
 // What one view holds of one camera: nothing, or the target's pose T_C_T.
 pub enum Cell {

@@ -1,13 +1,12 @@
 // The rig placer: from the poses that cameras saw over views to one pose for each camera and each view, or a refusal by number.
 // The names follow the Rust: `estimate_extrinsics_from_cam_target_poses`, `rig_se3_cam`, `rig_se3_target`.
-ghost use Prim.Native.Nat.{_+_, _*_, _≤_};
-ghost use mathlib.Core.Path.{_≡_};
+ghost use Prim.Native.Nat.{_≤_};
 ghost use lib.ListN.{length};
-ghost use Rattle.extrinsics.specs.Grid.{spots};
-ghost use Rattle.chains.specs.Trees.{treeOf};
+ghost use Rattle.limits.specs.Limits.{firstNeeds, secondNeeds};
+ghost use Rattle.chains.specs.Trees.{parentAt, linksAt};
 ghost use Rattle.extrinsics.specs.Rig.{rigGrid, Fitting};
 ghost use Rattle.extrinsics.specs.Outcome.{gridRefusal, Answers};
-ghost use Rattle.extrinsics.specs.Placed.{AllPlaced, Written};
+ghost use Rattle.extrinsics.specs.Placed.{Rooted, Written};
 ghost use Rattle.extrinsics.specs.Direct.{Direct};
 
 pub mod answer;
@@ -23,6 +22,8 @@ use inputs::Found;
 use inputs::camera_count;
 use inputs::check_input;
 use inputs::masks_of;
+use limits::ONE_VIEW;
+use limits::POSE_FLOATS;
 use refusal::Refusal;
 
 // What an estimate answers. The poses of a solved rig stand in the lent answers.
@@ -31,34 +32,34 @@ pub enum Outcome {
     Solved,
 }
 
-// The transforms of a rig whose cameras all have a chain and whose views all hold a pose, and its chains.
+// The transforms of a rig whose cameras hang in this tree and whose views all hold a pose, and its chains.
 fn write_solved(rig: Rig, floats: &[f64], tree: Tree, transforms: &mut [f64], chains: &mut [u8])
-    requires { ⌜ Fitting rig (now floats) × (tree ≡ treeOf (spots (rigGrid rig (now floats)))) × AllPlaced (rigGrid rig (now floats)) × (7 * (rig .cameras + rig .views) ≤ length (now transforms)) × (2 * rig .cameras ≤ length (now chains)) ⌝ }
-    ensures { λ _. ⌜ Written (rigGrid rig (now (floats .entry))) (now (transforms .entry)) (now (chains .entry)) (now (transforms .exit)) (now (chains .exit)) ⌝ }
+    requires { ⌜ Fitting rig (now floats) × Rooted (rig .cameras) (rig .reference) (parentAt tree) (linksAt tree) × (firstNeeds (rig .cameras) (rig .views) ≤ length (now transforms)) × (secondNeeds (rig .cameras) ≤ length (now chains)) ⌝ }
+    ensures { λ _. ⌜ Written (rigGrid rig (now (floats .entry))) (parentAt tree) (linksAt tree) (now (transforms .entry)) (now (chains .entry)) (now (transforms .exit)) (now (chains .exit)) ⌝ }
 {
     let rig_se3_cam = poses::place_cameras(rig, floats, tree);
     let cameras = rig.cameras;
     answer::write_cameras(rig_se3_cam, cameras, transforms);
-    let at = 7 * cameras;
+    let at = POSE_FLOATS * cameras;
     answer::write_targets(rig, floats, rig_se3_cam, &mut transforms[at..]);
     answer::write_chains(tree, cameras, chains);
 }
 
 // The core of every entry: 7, 8 and 9 in this order, or the solved rig. A refusal writes nothing.
 pub fn solve(rig: Rig, floats: &[f64], transforms: &mut [f64], chains: &mut [u8]) -> Outcome
-    requires { ⌜ Fitting rig (now floats) × (7 * (rig .cameras + rig .views) ≤ length (now transforms)) × (2 * rig .cameras ≤ length (now chains)) ⌝ }
+    requires { ⌜ Fitting rig (now floats) × (firstNeeds (rig .cameras) (rig .views) ≤ length (now transforms)) × (secondNeeds (rig .cameras) ≤ length (now chains)) ⌝ }
     ensures { λ r. ⌜ Answers (gridRefusal (rigGrid rig (now (floats .entry)))) (rigGrid rig (now (floats .entry))) (now (transforms .entry)) (now (chains .entry)) r (now (transforms .exit)) (now (chains .exit)) ⌝ }
 {
     if let Found::At(cell) = checks::find_not_finite(rig, floats) {
         return Outcome::Refused(Refusal::NotFinite(cell));
     }
     let masks = rig.masks;
-    let tree = layer_cameras(masks, rig.cameras, rig.reference);
-    let unreached = checks::unreached_cameras(rig, floats, tree);
+    let tree = layer_cameras(masks, rig.cameras, ONE_VIEW, rig.reference);
+    let unreached = checks::unreached_cameras(rig, tree);
     if unreached != 0 {
         return Outcome::Refused(Refusal::Unreached(unreached));
     }
-    if let Found::At(view) = checks::find_empty_view(rig, floats) {
+    if let Found::At(view) = checks::find_empty_view(rig) {
         return Outcome::Refused(Refusal::EmptyView(view));
     }
     write_solved(rig, floats, tree, transforms, chains);

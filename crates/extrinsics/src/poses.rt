@@ -4,18 +4,17 @@ ghost use Prim.Native.Nat.{_<_};
 ghost use mathlib.Core.Path.{_≡_};
 ghost use mathlib.Core.List.{foldl};
 ghost use Rattle.average.specs.Average.{plusPose};
-ghost use Rattle.extrinsics.specs.Grid.{spots};
-ghost use Rattle.chains.specs.Trees.{treeOf};
+ghost use Rattle.chains.specs.Trees.{parentAt, linksAt};
 ghost use Rattle.extrinsics.specs.Estimate.{linkCandidate, averagedLink, targetCandidate};
 ghost use Rattle.extrinsics.specs.Rig.{rigGrid, Fitting};
-ghost use Rattle.extrinsics.specs.Placed.{AllPlaced, PlacedAll};
+ghost use Rattle.extrinsics.specs.Placed.{Rooted, PlacedAll};
 use crate::grid::Cell;
 use crate::grid::Rig;
 use crate::grid::read_cell;
 use arithmetic::pose::Pose;
 use average::Average;
-use chains::MAX_CAMERAS;
 use chains::Tree;
+use limits::MAX_CAMERAS;
 
 // The candidate of one view, where it holds both: T_Cparent_C = T_Cparent_T * (T_C_T)^(-1).
 fn add_link(sum: Average, of_parent: Cell, of_camera: Cell) -> Average
@@ -51,11 +50,12 @@ fn average_link(rig: Rig, floats: &[f64], parent: usize, camera: usize) -> Pose
     sum.mean()
 }
 
-// The rig poses of all cameras, layer after layer: T_R_C = T_R_Cparent * T_Cparent_C, the parent being in the layer before. The reference,
-// layer 0, is the rig's own frame. The poses stay in one place: handed from function to function, all sixteen would be copied each time.
+// The rig poses of all cameras, whatever tree they hang in, by their links, ascending: T_R_C = T_R_Cparent * T_Cparent_C, the parent having
+// one link fewer. The reference, which has none, is the rig's own frame. The poses stay in one place: handed from function to function, all
+// sixteen would be copied each time.
 pub(crate) fn place_cameras(rig: Rig, floats: &[f64], tree: Tree) -> [Pose; MAX_CAMERAS]
-    requires { ⌜ Fitting rig (now floats) × (tree ≡ treeOf (spots (rigGrid rig (now floats)))) × AllPlaced (rigGrid rig (now floats)) ⌝ }
-    ensures { λ r. ⌜ PlacedAll (rigGrid rig (now (floats .entry))) r ⌝ }
+    requires { ⌜ Fitting rig (now floats) × Rooted (rig .cameras) (rig .reference) (parentAt tree) (linksAt tree) ⌝ }
+    ensures { λ r. ⌜ PlacedAll (rigGrid rig (now (floats .entry))) (parentAt tree) (linksAt tree) r ⌝ }
 {
     let cameras = rig.cameras;
     let mut poses = [Pose::identity(); MAX_CAMERAS];

@@ -1,6 +1,6 @@
 -- Laws of answers as data: what a check or a search answers says what was found, and the first check that finds something decides.
 -- Assumes nothing.
-use Prim.Native.Nat.{ℕ, _+_, _*_, _≤_, _<_}
+use Prim.Native.Nat.{ℕ, _*_, _≤_, _<_}
 use native.Mathlib.Nat.{eq-zero-or-pos}
 use native.Mathlib.Omega.{arith}
 use mathlib.Core.Logic.{⊎-elim}
@@ -13,7 +13,7 @@ use lib.Dec.{eqb, ltb, leb}
 use Rattle.refusal.specs.Table.{refuseIf, refuseAt, orElse, firstOf}
 use Rattle.refusal.specs.declared.Refusal.{Refusal}
 use Rattle.refusal.specs.declared.Refusal.the-variants.{InsufficientData, TooMany, InvalidReference}
-use Rattle.chains.specs.Limits.{maxViews, maxCameras}
+use Rattle.limits.specs.Limits.{maxViews, maxCameras, firstNeeds, secondNeeds}
 use Rattle.inputs.specs.Finding.{foundOf}
 use Rattle.inputs.specs.Inputs.{sizeRefusal, lengthRefusal, checkedOf}
 use Rattle.inputs.specs.declared.Found.the-variants.{At, Nothing}
@@ -136,8 +136,8 @@ sizeRefusal-sizes views cameras reference s =
 pub record Lengths (views cameras marks floats first second : ℕ) : Type 0 where
   pub marks-fit : marks ≡ views * cameras
   pub floats-fit : floats ≡ 7 * (views * cameras)
-  pub first-fits : 7 * (cameras + views) ≤ first
-  pub second-fits : 2 * cameras ≤ second
+  pub first-fits : firstNeeds cameras views ≤ first
+  pub second-fits : secondNeeds cameras ≤ second
 
 pub lengthRefusal-none : (views cameras marks floats first second : ℕ) → lengthRefusal views cameras marks floats first second ≡ none
     → Lengths views cameras marks floats first second
@@ -149,6 +149,6 @@ lengthRefusal-none views cameras marks floats first second e =
     record {
       marks-fit = eqb-true marks (views * cameras) (not-false _ (l .0));
       floats-fit = eqb-true floats (7 * (views * cameras)) (not-false _ (l .1));
-      first-fits = ltb-false first (7 * (cameras + views)) (k .1);
-      second-fits = ltb-false second (2 * cameras) (h .1);
+      first-fits = ltb-false first (firstNeeds cameras views) (k .1);
+      second-fits = ltb-false second (secondNeeds cameras) (h .1);
     }

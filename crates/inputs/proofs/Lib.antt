@@ -1,6 +1,4 @@
 -- Laws of searches, checks and masks, beside the proofs of the functions. Assumes nothing.
-pub mod Lowest
-pub mod PowerSums
 pub mod Answering
 pub mod InputChecks
 pub mod MarkedMasks

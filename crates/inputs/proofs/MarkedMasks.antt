@@ -11,10 +11,10 @@ use lib.ListN.{getD}
 use lib.Dec.{eqb}
 use lib.Pow.{pow-add, high, field}
 use borrow.Author.Tests.{eq-eqb, ne-eqb}
-use Rattle.chains.specs.Masks.{inMask}
-use Rattle.inputs.specs.Finding.{powerSum}
+use Rattle.lists.specs.Masks.{inMask}
+use Rattle.lists.specs.Finding.{powerSum}
 use Rattle.inputs.specs.Inputs.{maskOf}
-use Rattle.inputs.proofs.PowerSums.{powerSum-lt}
+use Rattle.lists.proofs.PowerSums.{powerSum-lt}
 
 -- ---- sums of powers of two
 

@@ -9,8 +9,8 @@ use lib.Dec.{eqb, leb, ltb}
 use Rattle.refusal.specs.Table.{refuseIf, refuseAt, firstOf}
 use Rattle.refusal.specs.declared.Refusal.{Refusal}
 use Rattle.refusal.specs.declared.Refusal.the-variants.{InsufficientData, TooMany, InvalidReference, CountDiffers, WrongLength, BadMark}
-use Rattle.chains.specs.Limits.{maxViews, maxCameras}
-use Rattle.inputs.specs.Finding.{lowest, powerSum}
+use Rattle.limits.specs.Limits.{maxViews, maxCameras, firstNeeds, secondNeeds}
+use Rattle.lists.specs.Finding.{lowest, powerSum}
 use Rattle.inputs.specs.declared.Checked.{Checked}
 use Rattle.inputs.specs.declared.Checked.the-variants.{Refused, Passed}
 
@@ -46,8 +46,8 @@ lengthRefusal views cameras marks floats firstRoom secondRoom =
     refuseIf
     (not (eqb marks (views * cameras))
     || not (eqb floats (7 * (views * cameras)))
-    || ltb firstRoom (7 * (cameras + views))
-    || ltb secondRoom (2 * cameras))
+    || ltb firstRoom (firstNeeds cameras views)
+    || ltb secondRoom (secondNeeds cameras))
     WrongLength
 
 -- 6: "a mark above 1; detail is the lowest such cell."

@@ -1,19 +1,15 @@
 // The checks of the direct call's inputs, in the papers' order: 1 to 3, the sizes; 4, the counts; 5, the lengths; 6, the marks. And the
 // masks that its marks make.
-ghost use Prim.Native.Nat.{ℕ, _+_, _*_, _^_, _≤_, _<_};
+ghost use Prim.Native.Nat.{ℕ, _+_, _*_, _≤_, _<_};
 ghost use mathlib.Core.Path.{_≡_};
-ghost use mathlib.Core.Bool.{not};
 ghost use lib.ListN.{length, getD};
-ghost use lib.Dec.{eqb};
-ghost use Rattle.refusal.specs.Table.{firstOf};
-ghost use Rattle.chains.specs.Layers.{tabulate};
 ghost use Rattle.inputs.specs.Finding.{foundOf};
 ghost use Rattle.inputs.specs.Inputs.{sizeRefusal, lengthRefusal, lowestOtherCount, lowestBadMark, inputRefusal, checkedOf, maskOf};
-use chains::MAX_CAMERAS;
+use limits::CHAIN_BYTES;
+use limits::MAX_CAMERAS;
+use limits::MAX_VIEWS;
+use limits::POSE_FLOATS;
 use refusal::Refusal;
-
-// As many views as a rig may have: one for each bit of a mask.
-pub const MAX_VIEWS: usize = 64;
 
 // What a search for a number finds.
 pub enum Found {
@@ -78,9 +74,9 @@ fn check_lengths(
 {
     let cells = views * cameras;
     if (marks != cells)
-        | (floats != 7 * cells)
-        | (first < 7 * (cameras + views))
-        | (second < 2 * cameras)
+        | (floats != POSE_FLOATS * cells)
+        | (first < POSE_FLOATS * (cameras + views))
+        | (second < CHAIN_BYTES * cameras)
     {
         return Checked::Refused(Refusal::WrongLength);
     }

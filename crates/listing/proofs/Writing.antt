@@ -7,7 +7,7 @@ use mathlib.Core.Path.{_≡_, refl, sym, ap, _∙_}
 use mathlib.Core.List.{List, [], _∷_, _++_, append-assoc}
 use lib.ListN.{length, take, drop, set, length-append, length-take, length-drop}
 use lib.Seq.{take-length, take-at, drop-at, drop-drop, length-take-le, set-split, paste, paste-zero}
-use Rattle.extrinsics.specs.Estimate.{gather}
+use Rattle.lists.specs.Lists.{gather}
 use Rattle.listing.specs.Writing.{Put, Front}
 
 pub put-nothing : (old : List ℕ) (at : ℕ) → at ≤ length old → Put old at [] old at

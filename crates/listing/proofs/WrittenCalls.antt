@@ -1,42 +1,38 @@
 -- What is written after a call: Solved stands for a rig that both answers hold, so that only the room decides (`written-call`).
 -- Assumes nothing.
-use Prim.Native.Nat.{ℕ, _+_, _*_}
+use Prim.Native.Nat.{ℕ}
 use native.Mathlib.Omega.{arith}
-use mathlib.Core.Path.{_≡_, refl, sym, subst}
+use mathlib.Core.Path.{_≡_, refl, sym}
 use mathlib.Core.Bool.{Bool, true, false, cond}
 use mathlib.Core.List.{List, []}
 use lib.ListN.{length}
 use lib.Dec.{leb}
-use lib.Ieee.{Float}
 use borrow.Author.Tests.{le-leb}
-use Rattle.chains.specs.Limits.{maxViews, maxCameras}
-use Rattle.session.specs.Call.{State, call, Called}
+use Rattle.limits.specs.Limits.{maxViews, maxCameras, firstNeeds, secondNeeds}
+use Rattle.session.specs.Call.{State, call}
 use Rattle.session.specs.declared.Reply.{Reply}
 use Rattle.session.specs.declared.Reply.the-variants.{End, Accepted, Solved, Refused}
-use Rattle.session.specs.declared.Step.{Step}
 use Rattle.session.proofs.SolvedCalls.{HoldsRig, call-solved}
-use Rattle.listing.specs.Listing.{replyText, listingBytes, sized, fits, written}
-use Rattle.listing.specs.StepText.{printedText, printedBy}
-use Rattle.listing.specs.Writing.{Front}
+use Rattle.listing.specs.Listing.{replyText, printedText, printedBy, listingBytes, sized, fits, written}
 
 cond-same {ℓ} : {A : Type ℓ} (b : Bool) (x : A) → cond b x x ≡ x
 cond-same true x = refl
 cond-same false x = refl
 
 module _ (t : State) where
-  sized-of-holding : HoldsRig t → sized (t .session .cameras) (t .session .views) (t .first) (t .second) ≡ true
+  sized-of-holding : HoldsRig t → sized (t .session) (t .first) (t .second) ≡ true
   unfolding sized
   sized-of-holding h =
       rw (
         le-leb (t .session .cameras) maxCameras (h .cameras-fit),
         le-leb (t .session .views) maxViews (h .views-fit),
-        le-leb (7 * (t .session .cameras + t .session .views)) (length (t .first)) (omega (arith, h .cameras-fit, h .views-fit, h .first-fits)),
-        le-leb (2 * t .session .cameras) (length (t .second)) (omega (arith, h .cameras-fit, h .second-fits)),
+        le-leb (firstNeeds (t .session .cameras) (t .session .views)) (length (t .first)) (omega (arith, h .cameras-fit, h .views-fit, h .first-fits)),
+        le-leb (secondNeeds (t .session .cameras)) (length (t .second)) (omega (arith, h .cameras-fit, h .second-fits)),
       )
 
   -- A rig that is to be printed is there, so that the text is written wherever any listing has room.
   written-held : (reply : Reply) (room : ℕ) → (reply ≡ Solved → HoldsRig t)
-      → written reply (t .session .cameras) (t .session .views) (t .first) (t .second) room ≡ cond (leb listingBytes room) (printedText reply t) []
+      → written reply (t .session) (t .first) (t .second) room ≡ cond (leb listingBytes room) (printedText reply t) []
   unfolding written fits replyText
   written-held End room h = sym (cond-same (leb listingBytes room) [])
   written-held Accepted room h = sym (cond-same (leb listingBytes room) [])
@@ -46,14 +42,6 @@ module _ (t : State) where
 module _ (t : State) (stream : List ℕ) (at : ℕ) where
   pub written-call : (room : ℕ)
       → let r = call t stream at in
-      written (r .reply) (r .after .session .cameras) (r .after .session .views) (r .after .first) (r .after .second) room
+      written (r .reply) (r .after .session) (r .after .first) (r .after .second) room
       ≡ cond (leb listingBytes room) (printedBy r) []
   written-call room = written-held (call t stream at .after) (call t stream at .reply) room (call-solved t stream at)
-
-  -- The text written for what a function answered that meets `Called`.
-  pub front-called : (step : Step) (buffer first : List Float) (second old new : List ℕ) (count : ℕ) → Called t stream at step buffer first second
-      → Front old (written (step .reply) (step .session .cameras) (step .session .views) first second (length old)) new count
-      → Front old (cond (leb listingBytes (length old)) (printedBy (call t stream at)) []) new count
-  front-called step buffer first second old new count c f =
-      subst (λ (text : List ℕ). Front old text new count)
-      (rw (c .reply, c .session, c .first-after, c .second-after) (written-call (length old))) f

@@ -1,5 +1,5 @@
 -- The lines that `rig` prints, as bytes: document 01, "A stream arrives", from "Output lines" on.
--- Rests on the digits of the kit's `io`, the poses of `arithmetic` and the table of refusals.
+-- Rests on the digits of the kit's `io`, the poses of `arithmetic`, the table of refusals and what a call of the session answers.
 use Prim.Native.Nat.{ℕ, zero, suc, _+_, _*_, _/_, _%_}
 use mathlib.Core.Bool.{Bool, true, _&&_, cond}
 use mathlib.Core.List.{List, [], _∷_, _++_, map}
@@ -11,10 +11,13 @@ use Rattle.arithmetic.specs.Pose.{flat, poseAt}
 use Rattle.arithmetic.specs.declared.pose.Pose.{Pose}
 use Rattle.refusal.specs.Table.{numberOf, detailOf}
 use Rattle.refusal.specs.declared.Refusal.{Refusal}
-use Rattle.chains.specs.Limits.{maxViews, maxCameras}
-use Rattle.extrinsics.specs.Estimate.{gather}
+use Rattle.limits.specs.Limits.{maxViews, maxCameras, poseFloats, firstNeeds, parentPlace, linksPlace, secondNeeds}
+use Rattle.lists.specs.Lists.{gather}
+use Rattle.session.specs.Call.{State, Result}
+use Rattle.session.specs.declared.Session.{Session}
 use Rattle.session.specs.declared.Reply.{Reply}
 use Rattle.session.specs.declared.Reply.the-variants.{End, Accepted, Solved, Refused}
+use Rattle.listing.specs.Widths.{okBytes, cameraBytes, viewBytes}
 
 abbrev pub blank : ℕ
 blank = 32
@@ -72,56 +75,76 @@ okLine cameras views = line okWord (decimalText cameras ∷ decimalText views �
 abbrev pub poseFields : Pose → List (List ℕ)
 poseFields p = map floatText (flat p)
 
--- "per camera `c`, index, parent, links, seven floats;"
-unfoldable pub cameraLine : ℕ → ℕ → ℕ → Pose → List ℕ
-cameraLine index parent links p = line cameraWord (decimalText index ∷ decimalText parent ∷ decimalText links ∷ poseFields p)
+-- ---- a solved rig, for any fields that stand for a pose; `rig` prints `poseFields`
 
--- "per view `v`, index, seven floats."
-unfoldable pub viewLine : ℕ → Pose → List ℕ
-viewLine index p = line viewWord (decimalText index ∷ poseFields p)
+module _ (fields : Pose → List (List ℕ)) where
+  -- "per camera `c`, index, parent, links, seven floats;": numbers in decimal, then the pose.
+  unfoldable pub cameraLine : List ℕ → Pose → List ℕ
+  cameraLine numbers p = line cameraWord (map decimalText numbers ++ fields p)
 
--- ---- a solved rig, as the two answers hold it: the first seven floats for each camera and then for each view, the second a parent and a link count for each camera
+  -- "per view `v`, index, seven floats."
+  unfoldable pub viewLine : List ℕ → Pose → List ℕ
+  viewLine numbers p = line viewWord (map decimalText numbers ++ fields p)
 
-module _ (first : List Float) (second : List ℕ) where
+-- The numbers of a camera's line, "index, parent, links", as the second answer holds them, and of a view's, "index".
+abbrev pub cameraNumbers : List ℕ → ℕ → List ℕ
+cameraNumbers second c = c ∷ getD second (parentPlace c) 0 ∷ getD second (linksPlace c) 0 ∷ []
+
+abbrev pub viewNumbers : ℕ → List ℕ
+viewNumbers v = v ∷ []
+
+-- The poses stand in the first answer, those of the cameras and then those of the views.
+module _ (fields : Pose → List (List ℕ)) (first : List Float) (second : List ℕ) where
   unfoldable pub cameraLineAt : ℕ → List ℕ
-  cameraLineAt c = cameraLine c (getD second (2 * c) 0) (getD second (2 * c + 1) 0) (poseAt first (7 * c))
+  cameraLineAt c = cameraLine fields (cameraNumbers second c) (poseAt first (poseFloats * c))
 
-module _ (first : List Float) (cameras : ℕ) where
+module _ (fields : Pose → List (List ℕ)) (first : List Float) (cameras : ℕ) where
   unfoldable pub viewLineAt : ℕ → List ℕ
-  viewLineAt v = viewLine v (poseAt first (7 * (cameras + v)))
+  viewLineAt v = viewLine fields (viewNumbers v) (poseAt first (poseFloats * (cameras + v)))
 
 -- "indexes are ascending"
-unfoldable pub solvedText : ℕ → ℕ → List Float → List ℕ → List ℕ
-solvedText cameras views first second =
-    okLine cameras views ++ (gather cameras (cameraLineAt first second) ++ gather views (viewLineAt first cameras))
+unfoldable pub solvedText : (Pose → List (List ℕ)) → Session → List Float → List ℕ → List ℕ
+solvedText fields session first second =
+    okLine (session .cameras) (session .views)
+    ++ (gather (session .cameras) (cameraLineAt fields first second) ++ gather (session .views) (viewLineAt fields first (session .cameras)))
 
 -- ---- a reply
 
 -- "an accepted command but Solve prints nothing"; nor does the end.
-unfoldable pub replyText : Reply → ℕ → ℕ → List Float → List ℕ → List ℕ
-replyText End cameras views first second = []
-replyText Accepted cameras views first second = []
-replyText Solved cameras views first second = solvedText cameras views first second
-replyText (Refused r) cameras views first second = refusalLine r
+unfoldable pub replyText : Reply → Session → List Float → List ℕ → List ℕ
+replyText End session first second = []
+replyText Accepted session first second = []
+replyText Solved session first second = solvedText poseFields session first second
+replyText (Refused r) session first second = refusalLine r
+
+-- What a reply prints, after which this stands in the record and in both answers.
+abbrev pub printedText : Reply → State → List ℕ
+printedText reply after = replyText reply (after .session) (after .first) (after .second)
+
+abbrev pub printedBy : Result → List ℕ
+printedBy r = printedText (r .reply) (r .after)
 
 -- ---- lent memory that holds any listing
 
--- Enough for the ok line, the lines of 16 cameras and of 64 views.
+-- The ok line, and the lines of as many cameras and views as a rig may have.
 abbrev pub listingBytes : ℕ
-listingBytes = 10240
+listingBytes = okBytes + maxCameras * cameraBytes poseFloats + maxViews * viewBytes poseFloats
 
 -- The sizes are within the limits, and both answers hold such a rig.
-unfoldable pub sized : ℕ → ℕ → List Float → List ℕ → Bool
-sized cameras views first second =
-    leb cameras maxCameras && leb views maxViews && leb (7 * (cameras + views)) (length first) && leb (2 * cameras) (length second)
+unfoldable pub sized : Session → List Float → List ℕ → Bool
+sized session first second =
+    leb (session .cameras) maxCameras
+    && leb (session .views) maxViews
+    && leb (firstNeeds (session .cameras) (session .views)) (length first)
+    && leb (secondNeeds (session .cameras)) (length second)
 
 -- There is room for what a reply prints, and a rig that is to be printed is there.
-unfoldable pub fits : Reply → ℕ → ℕ → List Float → List ℕ → ℕ → Bool
-fits End cameras views first second room = true
-fits Accepted cameras views first second room = true
-fits Solved cameras views first second room = sized cameras views first second && leb listingBytes room
-fits (Refused r) cameras views first second room = leb listingBytes room
+unfoldable pub fits : Reply → Session → List Float → List ℕ → ℕ → Bool
+fits End session first second room = true
+fits Accepted session first second room = true
+fits Solved session first second room = sized session first second && leb listingBytes room
+fits (Refused r) session first second room = leb listingBytes room
 
 -- What is written for a reply into memory of so many bytes: its text, or nothing where that does not fit.
-unfoldable pub written : Reply → ℕ → ℕ → List Float → List ℕ → ℕ → List ℕ
-written reply cameras views first second room = cond (fits reply cameras views first second room) (replyText reply cameras views first second) []
+unfoldable pub written : Reply → Session → List Float → List ℕ → ℕ → List ℕ
+written reply session first second room = cond (fits reply session first second room) (replyText reply session first second) []

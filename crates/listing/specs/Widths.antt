@@ -13,9 +13,9 @@ numberBytes = 11
 abbrev pub floatBytes : ℕ
 floatBytes = 17
 
--- Seven floats and the line's end.
-abbrev pub poseFieldsBytes : ℕ
-poseFieldsBytes = 7 * floatBytes + 1
+-- A pose that is printed as so many floats, and the line's end.
+abbrev pub poseBytes : ℕ → ℕ
+poseBytes floats = floats * floatBytes + 1
 
 -- The lines: two letters or one, the fields, and the line's end.
 abbrev pub refusalBytes : ℕ
@@ -24,8 +24,10 @@ refusalBytes = 2 + 2 * numberBytes + 1
 abbrev pub okBytes : ℕ
 okBytes = 2 + 2 * smallBytes + 1
 
-abbrev pub cameraBytes : ℕ
-cameraBytes = 1 + 3 * smallBytes + poseFieldsBytes
+-- Index, parent and links.
+abbrev pub cameraBytes : ℕ → ℕ
+cameraBytes floats = 1 + 3 * smallBytes + poseBytes floats
 
-abbrev pub viewBytes : ℕ
-viewBytes = 1 + smallBytes + poseFieldsBytes
+-- Index.
+abbrev pub viewBytes : ℕ → ℕ
+viewBytes floats = 1 + smallBytes + poseBytes floats

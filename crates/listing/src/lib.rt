@@ -9,55 +9,49 @@ ghost use Rattle.listing.specs.Listing.{refusalLine, listingBytes, sized
 ghost use Rattle.listing.specs.Writing.{Front};
 
 mod lines;
-pub mod step_text;
 mod text;
 
 use crate::lines::put_refusal;
 use crate::lines::put_solved;
-use arithmetic::pose::POSE_FLOATS;
-use chains::MAX_CAMERAS;
-use inputs::MAX_VIEWS;
+use limits::CHAIN_BYTES;
+use limits::MAX_CAMERAS;
+use limits::MAX_VIEWS;
+use limits::POSE_FLOATS;
 use refusal::Refusal;
 use session::Reply;
+use session::Session;
 
-// Memory of this length holds every listing: 16 cameras and 64 views, the longest, take fewer.
-pub const LISTING_BYTES: usize = 10240;
+// Memory of this length holds every listing: the ok line, 16 cameras and 64 views, each line as long as any.
+pub const LISTING_BYTES: usize = 10139;
 
 // The text of a reply at the front of `out`, and its length; nothing where it does not fit. Memory behind the text is unchanged.
 pub fn write_reply(
     reply: Reply,
-    cameras: usize,
-    views: usize,
+    session: Session,
     transforms: &[f64],
     chains: &[u8],
     out: &mut [u8],
 ) -> usize
-    ensures { λ r. ⌜ Front (now (out .entry)) (written reply cameras views (now (transforms .entry)) (now (chains .entry)) (length (now (out .entry)))) (now (out .exit)) r ⌝ }
+    ensures { λ r. ⌜ Front (now (out .entry)) (written reply session (now (transforms .entry)) (now (chains .entry)) (length (now (out .entry)))) (now (out .exit)) r ⌝ }
 {
     match reply {
         Reply::End => 0,
         Reply::Accepted => 0,
-        Reply::Solved => write_solved(cameras, views, transforms, chains, out),
+        Reply::Solved => write_solved(session, transforms, chains, out),
         Reply::Refused(refusal) => write_refusal(refusal, out),
     }
 }
 
-fn write_solved(
-    cameras: usize,
-    views: usize,
-    transforms: &[f64],
-    chains: &[u8],
-    out: &mut [u8],
-) -> usize
-    ensures { λ r. ⌜ Front (now (out .entry)) (written Solved cameras views (now (transforms .entry)) (now (chains .entry)) (length (now (out .entry)))) (now (out .exit)) r ⌝ }
+fn write_solved(session: Session, transforms: &[f64], chains: &[u8], out: &mut [u8]) -> usize
+    ensures { λ r. ⌜ Front (now (out .entry)) (written Solved session (now (transforms .entry)) (now (chains .entry)) (length (now (out .entry)))) (now (out .exit)) r ⌝ }
 {
-    if !is_sized(cameras, views, transforms, chains) {
+    if !is_sized(session, transforms, chains) {
         return 0;
     }
     if out.len() < LISTING_BYTES {
         return 0;
     }
-    put_solved(out, cameras as u8, views as u8, transforms, chains)
+    put_solved(out, session, transforms, chains)
 }
 
 fn write_refusal(refusal: Refusal, out: &mut [u8]) -> usize
@@ -69,9 +63,11 @@ fn write_refusal(refusal: Refusal, out: &mut [u8]) -> usize
     put_refusal(out, 0, refusal)
 }
 
-fn is_sized(cameras: usize, views: usize, transforms: &[f64], chains: &[u8]) -> bool
-    ensures { λ r. ⌜ r ≡ sized cameras views (now (transforms .entry)) (now (chains .entry)) ⌝ }
+fn is_sized(session: Session, transforms: &[f64], chains: &[u8]) -> bool
+    ensures { λ r. ⌜ r ≡ sized session (now (transforms .entry)) (now (chains .entry)) ⌝ }
 {
+    let cameras = session.cameras as usize;
+    let views = session.views as usize;
     if cameras > MAX_CAMERAS {
         return false;
     }
@@ -81,5 +77,5 @@ fn is_sized(cameras: usize, views: usize, transforms: &[f64], chains: &[u8]) -> 
     if transforms.len() < POSE_FLOATS * (cameras + views) {
         return false;
     }
-    2 * cameras <= chains.len()
+    CHAIN_BYTES * cameras <= chains.len()
 }

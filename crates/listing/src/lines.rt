@@ -1,9 +1,10 @@
 // The lines of a listing put into lent bytes at a place; each function answers the place behind what it put.
 ghost use Prim.Native.Nat.{_+_, _*_, _≤_};
+ghost use mathlib.Core.List.{[], _∷_};
 ghost use lib.ListN.{length};
-ghost use Rattle.chains.specs.Limits.{maxViews, maxCameras};
-ghost use Rattle.extrinsics.specs.Estimate.{gather};
-ghost use Rattle.listing.specs.Listing.{refusalLine, okLine, cameraLine, viewLine, cameraLineAt, viewLineAt, solvedText, listingBytes};
+ghost use Rattle.limits.specs.Limits.{maxViews, maxCameras, poseFloats, firstNeeds, secondNeeds};
+ghost use Rattle.lists.specs.Lists.{gather};
+ghost use Rattle.listing.specs.Listing.{refusalLine, okLine, poseFields, cameraLine, viewLine, cameraLineAt, viewLineAt, solvedText, listingBytes};
 ghost use Rattle.listing.specs.Widths.{refusalBytes, okBytes, cameraBytes, viewBytes};
 ghost use Rattle.listing.specs.Writing.{Put};
 use crate::text::NEWLINE;
@@ -12,9 +13,12 @@ use crate::text::put_bytes;
 use crate::text::put_number;
 use crate::text::put_pose;
 use crate::text::put_small;
-use arithmetic::pose::POSE_FLOATS;
 use arithmetic::pose::Pose;
+use limits::CHAIN_BYTES;
+use limits::LINKS_PLACE;
+use limits::POSE_FLOATS;
 use refusal::Refusal;
+use session::Session;
 
 pub(crate) fn put_refusal(out: &mut [u8], at: usize, refusal: Refusal) -> usize
     requires { ⌜ at + refusalBytes ≤ length (now out) ⌝ }
@@ -40,9 +44,9 @@ fn put_ok(out: &mut [u8], at: usize, cameras: u8, views: u8) -> usize
 }
 
 fn put_camera(out: &mut [u8], at: usize, index: u8, parent: u8, links: u8, pose: Pose) -> usize
-    requires { ⌜ at + cameraBytes ≤ length (now out) ⌝ }
-    ensures { λ r. ⌜ Put (now (out .entry)) at (cameraLine index parent links pose) (now (out .exit)) r ⌝ }
-    ensures { λ r. ⌜ r ≤ at + cameraBytes ⌝ }
+    requires { ⌜ at + cameraBytes poseFloats ≤ length (now out) ⌝ }
+    ensures { λ r. ⌜ Put (now (out .entry)) at (cameraLine poseFields (index ∷ parent ∷ links ∷ []) pose) (now (out .exit)) r ⌝ }
+    ensures { λ r. ⌜ r ≤ at + cameraBytes poseFloats ⌝ }
 {
     let index_at = put_byte(out, at, b'c');
     let parent_at = put_small(out, index_at, index);
@@ -52,9 +56,9 @@ fn put_camera(out: &mut [u8], at: usize, index: u8, parent: u8, links: u8, pose:
 }
 
 fn put_view(out: &mut [u8], at: usize, index: u8, pose: Pose) -> usize
-    requires { ⌜ at + viewBytes ≤ length (now out) ⌝ }
-    ensures { λ r. ⌜ Put (now (out .entry)) at (viewLine index pose) (now (out .exit)) r ⌝ }
-    ensures { λ r. ⌜ r ≤ at + viewBytes ⌝ }
+    requires { ⌜ at + viewBytes poseFloats ≤ length (now out) ⌝ }
+    ensures { λ r. ⌜ Put (now (out .entry)) at (viewLine poseFields (index ∷ []) pose) (now (out .exit)) r ⌝ }
+    ensures { λ r. ⌜ r ≤ at + viewBytes poseFloats ⌝ }
 {
     let index_at = put_byte(out, at, b'v');
     let pose_at = put_small(out, index_at, index);
@@ -62,26 +66,33 @@ fn put_view(out: &mut [u8], at: usize, index: u8, pose: Pose) -> usize
 }
 
 fn put_cameras(out: &mut [u8], at: usize, cameras: u8, transforms: &[f64], chains: &[u8]) -> usize
-    requires { ⌜ at + cameraBytes * cameras ≤ length (now out) ⌝ }
-    requires { ⌜ (7 * cameras ≤ length (now transforms)) × (2 * cameras ≤ length (now chains)) ⌝ }
-    ensures { λ r. ⌜ Put (now (out .entry)) at (gather cameras (cameraLineAt (now (transforms .entry)) (now (chains .entry)))) (now (out .exit)) r ⌝ }
-    ensures { λ r. ⌜ r ≤ at + cameraBytes * cameras ⌝ }
+    requires { ⌜ at + cameraBytes poseFloats * cameras ≤ length (now out) ⌝ }
+    requires { ⌜ (poseFloats * cameras ≤ length (now transforms)) × (secondNeeds cameras ≤ length (now chains)) ⌝ }
+    ensures { λ r. ⌜ Put (now (out .entry)) at (gather cameras (cameraLineAt poseFields (now (transforms .entry)) (now (chains .entry)))) (now (out .exit)) r ⌝ }
+    ensures { λ r. ⌜ r ≤ at + cameraBytes poseFloats * cameras ⌝ }
 {
     let mut next = at;
     let mut camera = 0u8;
     while camera < cameras {
         let c = camera as usize;
         let pose = Pose::read(transforms, POSE_FLOATS * c);
-        next = put_camera(out, next, camera, chains[2 * c], chains[2 * c + 1], pose);
+        next = put_camera(
+            out,
+            next,
+            camera,
+            chains[CHAIN_BYTES * c],
+            chains[CHAIN_BYTES * c + LINKS_PLACE],
+            pose,
+        );
         camera += 1;
     }
     next
 }
 
 fn put_views(out: &mut [u8], at: usize, cameras: u8, views: u8, transforms: &[f64]) -> usize
-    requires { ⌜ at + viewBytes * views ≤ length (now out) ⌝ }
-    requires { ⌜ 7 * (cameras + views) ≤ length (now transforms) ⌝ }
-    ensures { λ r. ⌜ Put (now (out .entry)) at (gather views (viewLineAt (now (transforms .entry)) cameras)) (now (out .exit)) r ⌝ }
+    requires { ⌜ at + viewBytes poseFloats * views ≤ length (now out) ⌝ }
+    requires { ⌜ firstNeeds cameras views ≤ length (now transforms) ⌝ }
+    ensures { λ r. ⌜ Put (now (out .entry)) at (gather views (viewLineAt poseFields (now (transforms .entry)) cameras)) (now (out .exit)) r ⌝ }
 {
     let mut next = at;
     let mut view = 0u8;
@@ -95,15 +106,16 @@ fn put_views(out: &mut [u8], at: usize, cameras: u8, views: u8, transforms: &[f6
 
 pub(crate) fn put_solved(
     out: &mut [u8],
-    cameras: u8,
-    views: u8,
+    session: Session,
     transforms: &[f64],
     chains: &[u8],
 ) -> usize
-    requires { ⌜ (cameras ≤ maxCameras) × (views ≤ maxViews) × (listingBytes ≤ length (now out)) ⌝ }
-    requires { ⌜ (7 * (cameras + views) ≤ length (now transforms)) × (2 * cameras ≤ length (now chains)) ⌝ }
-    ensures { λ r. ⌜ Put (now (out .entry)) 0 (solvedText cameras views (now (transforms .entry)) (now (chains .entry))) (now (out .exit)) r ⌝ }
+    requires { ⌜ (session .cameras ≤ maxCameras) × (session .views ≤ maxViews) × (listingBytes ≤ length (now out)) ⌝ }
+    requires { ⌜ (firstNeeds (session .cameras) (session .views) ≤ length (now transforms)) × (secondNeeds (session .cameras) ≤ length (now chains)) ⌝ }
+    ensures { λ r. ⌜ Put (now (out .entry)) 0 (solvedText poseFields session (now (transforms .entry)) (now (chains .entry))) (now (out .exit)) r ⌝ }
 {
+    let cameras = session.cameras;
+    let views = session.views;
     let cameras_at = put_ok(out, 0, cameras, views);
     let views_at = put_cameras(out, cameras_at, cameras, transforms, chains);
     put_views(out, views_at, cameras, views, transforms)

@@ -4,8 +4,9 @@ ghost use mathlib.Core.Path.{_≡_};
 ghost use mathlib.Core.List.{[], _∷_};
 ghost use lib.ListN.{length};
 ghost use lib.Ieee.{binary64, toBits};
+ghost use Rattle.limits.specs.Limits.{poseFloats};
 ghost use Rattle.listing.specs.Listing.{blank, decimalText, floatText, fieldsText, poseFields};
-ghost use Rattle.listing.specs.Widths.{smallBytes, numberBytes, floatBytes, poseFieldsBytes};
+ghost use Rattle.listing.specs.Widths.{smallBytes, numberBytes, floatBytes, poseBytes};
 ghost use Rattle.listing.specs.Writing.{Put};
 use arithmetic::pose::Pose;
 
@@ -88,9 +89,9 @@ fn bits_of(x: f64) -> u64
 
 // The seven floats that end a line.
 pub(crate) fn put_pose(out: &mut [u8], at: usize, pose: Pose) -> usize
-    requires { ⌜ at + poseFieldsBytes ≤ length (now out) ⌝ }
+    requires { ⌜ at + poseBytes poseFloats ≤ length (now out) ⌝ }
     ensures { λ r. ⌜ Put (now (out .entry)) at (fieldsText (poseFields pose)) (now (out .exit)) r ⌝ }
-    ensures { λ r. ⌜ r ≡ at + poseFieldsBytes ⌝ }
+    ensures { λ r. ⌜ r ≡ at + poseBytes poseFloats ⌝ }
 {
     let t = pose.translation;
     let q = pose.rotation;

@@ -1,7 +1,9 @@
 -- The laws of this crate, beside the proofs of its functions. Assumes nothing.
-pub mod Products
-pub mod Averages
 pub mod Replies
+pub mod Reading
+pub mod Details
+pub mod ReadBack
+pub mod Direct
+pub mod Calls
 pub mod Records
 pub mod Steps
-pub mod FiniteMeans

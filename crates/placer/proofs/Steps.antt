@@ -12,7 +12,7 @@ use Rattle.placer.specs.Code.{codeOf, codeOfReply}
 use Rattle.placer.specs.Step.{wordsOf, sessionIn, isRecord, notARecord, stepped, wordsAfter, Stepped}
 
 module _ (words stream : List ℕ) (at : ℕ) (buffer first : List Float) (second : List ℕ) where
-  stepped-not : isRecord words ≡ false
+  pub stepped-not : isRecord words ≡ false
       → stepped words stream at buffer first second ≡ stopped (state (sessionIn words) buffer first second) stream (notARecord (length stream))
   unfolding stepped
   stepped-not e = rw e
@@ -32,7 +32,7 @@ module _ (words stream : List ℕ) (at : ℕ) (buffer first : List Float) (secon
       }
 
   module _ (e : isRecord words ≡ true) (s : Session) (s-is : s ≡ sessionIn words) where
-    stepped-call : stepped words stream at buffer first second ≡ call (state s buffer first second) stream at
+    pub stepped-call : stepped words stream at buffer first second ≡ call (state s buffer first second) stream at
     unfolding stepped
     stepped-call = rw (e, s-is)
 

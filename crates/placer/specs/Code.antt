@@ -4,6 +4,8 @@ use Prim.Native.Nat.{ℕ, _+_, _*_, _^_}
 use mathlib.Core.Option.{Option, none, some}
 use Rattle.refusal.specs.Table.{numberOf, detailOf}
 use Rattle.refusal.specs.declared.Refusal.{Refusal}
+use Rattle.averaging.specs.declared.Averaged.{Averaged}
+use Rattle.averaging.specs.declared.Averaged.the-variants as Average
 use Rattle.extrinsics.specs.declared.Outcome.{Outcome}
 use Rattle.extrinsics.specs.declared.Outcome.the-variants.{Refused, Solved}
 use Rattle.session.specs.declared.Reply.{Reply}
@@ -15,6 +17,10 @@ codeOf r = numberOf r * 2 ^ 32 + detailOf r
 unfoldable pub codeOfOutcome : Outcome → ℕ
 codeOfOutcome (Refused r) = codeOf r
 codeOfOutcome Solved = 0
+
+unfoldable pub codeOfAveraged : Averaged → ℕ
+codeOfAveraged (Average.Refused r) = codeOf r
+codeOfAveraged (Average.Mean p) = 0
 
 unfoldable pub replyOf : Option Refusal → ℕ
 replyOf (some r) = codeOf r

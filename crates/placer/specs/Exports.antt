@@ -1,33 +1,34 @@
--- What each export answers, and what its lent answers are after it, over their full length. Rests on `Code`, `Poses` and the outcomes of `extrinsics`.
+-- What each export answers, and what its lent answers are after it, over their full length. Rests on `Code`, and on the outcomes of `averaging` and `extrinsics`.
 use Prim.Native.Nat.{ℕ}
 use mathlib.Core.Path.{_≡_}
-use mathlib.Core.Option.{Option}
-use mathlib.Core.List.{List}
-use lib.ListN.{length}
+use mathlib.Core.List.{List, _++_}
+use lib.ListN.{length, drop}
 use lib.Ieee.{Float}
-use Rattle.arithmetic.specs.Pose.{flat, posesIn}
-use Rattle.average.specs.Average.{averageIsometries}
-use Rattle.refusal.specs.declared.Refusal.{Refusal}
+use Rattle.arithmetic.specs.Pose.{flat}
+use Rattle.arithmetic.specs.declared.pose.Pose.{Pose}
+use Rattle.averaging.specs.Gathered.{gathered}
+use Rattle.averaging.specs.Entry.{averagedOf}
+use Rattle.averaging.specs.declared.list.Gathered.{Gathered}
+use Rattle.averaging.specs.declared.Averaged.{Averaged}
+use Rattle.averaging.specs.declared.Averaged.the-variants.{Refused, Mean}
 use Rattle.extrinsics.specs.Estimate.{transforms, chains}
 use Rattle.extrinsics.specs.Outcome.{answered}
 use Rattle.extrinsics.specs.Direct.{directGrid, directRefusal}
-use Rattle.placer.specs.Code.{replyOf}
-use Rattle.placer.specs.Poses.{poseCount, posesRefusal, averageRefusal, productOf, inversesOf}
+use Rattle.placer.specs.Code.{codeOfAveraged, replyOf}
 
--- Given what is refused and the floats that are written otherwise: the reply r, and the lent answer after it.
-pub record Replied (refusal : Option Refusal) (new old : List Float) (r : ℕ) (after : List Float) : Type 0 where
-  pub reply : r ≡ replyOf refusal
-  pub answer : after ≡ answered refusal new old
+-- What the lent seven floats of a mean are afterwards: a refusal writes nothing.
+unfoldable pub meanAfter : Averaged → List Float → List Float
+meanAfter (Refused r) old = old
+meanAfter (Mean p) old = flat p ++ drop 7 old
 
-abbrev pub Averaged : List Float → List Float → ℕ → List Float → Type 0
-Averaged poses mean =
-    Replied (averageRefusal poses (length mean)) (flat (averageIsometries (posesIn (poseCount poses) poses))) mean
+-- The public averaging entry, on lent pose records.
+pub record AveragedInto (poses : List Pose) (mean : List Float) (r : ℕ) (mean′ : List Float) : Type 0 where
+  pub reply : r ≡ codeOfAveraged (averagedOf poses)
+  pub answer : mean′ ≡ meanAfter (averagedOf poses) mean
 
-abbrev pub Multiplied : List Float → List Float → ℕ → List Float → Type 0
-Multiplied poses product = Replied (posesRefusal (length poses) (length product) 7) (flat (productOf poses)) product
-
-abbrev pub Inverted : List Float → List Float → ℕ → List Float → Type 0
-Inverted poses inverses = Replied (posesRefusal (length poses) (length inverses) (length poses)) (inversesOf poses) inverses
+-- The same by what was gathered of a list: it is that of the list.
+abbrev pub AnswersInto : Gathered → List Float → ℕ → List Float → Type 0
+AnswersInto g mean r mean′ = (l : List Pose) → g ≡ gathered l → AveragedInto l mean r mean′
 
 -- The direct call: a camera count for each view, a mark and seven floats for each cell, the reference, and both answers.
 pub record Estimated (counts marks : List ℕ) (floats : List Float) (reference : ℕ) (first : List Float) (second : List ℕ) (r : ℕ) (first′ : List Float) (second′ : List ℕ) : Type 0 where

@@ -1,5 +1,5 @@
--- The definitions that the contracts of `placer` cite: refusals as one number, lists of poses, what each export answers, and one command of a session. Definitions only.
+-- The definitions that the contracts of `placer` cite: refusals as one number, what each export answers, and one command of a session. Definitions only.
 pub mod Code
-pub mod Poses
 pub mod Exports
 pub mod Step
+pub mod Reading

@@ -1,80 +1,44 @@
 // The static library: what C and Rust call. Each export answers 0, or what it refuses as number times 2^32 plus detail, and a
 // refusal writes nothing. No export asks anything of its caller but that the slices are real. include/placer.h is the C header.
 ghost use mathlib.Core.Path.{_≡_};
-ghost use Rattle.root.specs.Root.{rootOf};
-ghost use Rattle.placer.specs.Exports.{Estimated, Averaged, Multiplied, Inverted};
+ghost use Rattle.root.specs.Root.{rootOf, IsRootOf};
+ghost use Rattle.placer.specs.Exports.{AveragedInto, Estimated};
 ghost use Rattle.placer.specs.Step.{Stepped};
 
-mod code;
-mod poses;
+pub mod code;
+mod mean;
 mod record;
 
 use crate::code::outcome_code;
 use crate::code::refusal_code;
 use crate::code::reply_code;
-use crate::poses::check_list;
-use crate::poses::check_poses;
-use crate::poses::find_by_mean;
-use crate::poses::product_of;
-use crate::poses::write_inverses;
+use crate::mean::answer_list;
 use crate::record::is_record;
 use crate::record::not_a_record;
 use crate::record::read_record;
 use crate::record::write_record;
-use average::average_floats;
+use arithmetic::pose::Pose;
+use averaging::list::read_poses;
 use extrinsics::estimate_extrinsics_from_cam_target_poses;
-use inputs::Checked;
-use inputs::Found;
-use refusal::Refusal;
+use limits::POSE_FLOATS;
 use root::sqrt;
 use session::obey;
 
 // The square root of IEEE 754, for every double.
 #[no_mangle]
 pub extern "C" fn placer_sqrt(x: f64) -> f64
-    ensures { λ r. ⌜ r ≡ rootOf x ⌝ }
+    ensures { λ r. ⌜ (r ≡ rootOf x) × IsRootOf x r ⌝ }
 {
     sqrt(x)
 }
 
-// The average of poses, seven floats each, into the first seven floats of `mean`. Refuses 1, 2, 5 and 7.
+// The average of pose records, its seven numbers into `mean`. Refuses 1, 2 and 7. For C and Rust the lent list is a pointer to the first
+// record and a count, and `mean` a pointer to seven doubles.
 #[no_mangle]
-pub extern "C" fn placer_average(poses: &[f64], mean: &mut [f64]) -> u64
-    ensures { λ r. ⌜ Averaged (now (poses .entry)) (now (mean .entry)) r (now (mean .exit)) ⌝ }
+pub extern "C" fn rig_average_isometries(poses: &[Pose], mean: &mut [f64; POSE_FLOATS]) -> u64
+    ensures { λ r. ⌜ AveragedInto (now (poses .entry)) (now (mean .entry)) r (now (mean .exit)) ⌝ }
 {
-    if let Checked::Refused(refusal) = check_list(poses.len(), mean.len()) {
-        return refusal_code(refusal);
-    }
-    let average = average_floats(poses);
-    if let Found::At(pose) = find_by_mean(poses, average) {
-        return refusal_code(Refusal::NotFinite(pose));
-    }
-    average.write(mean);
-    0
-}
-
-// The product of poses, in order, into the first seven floats of `product`; of no poses the identity. Refuses 5.
-#[no_mangle]
-pub extern "C" fn placer_product(poses: &[f64], product: &mut [f64]) -> u64
-    ensures { λ r. ⌜ Multiplied (now (poses .entry)) (now (product .entry)) r (now (product .exit)) ⌝ }
-{
-    if let Checked::Refused(refusal) = check_poses(poses.len(), product.len(), 7) {
-        return refusal_code(refusal);
-    }
-    product_of(poses).write(product);
-    0
-}
-
-// The inverse of each pose, each at its own place in `inverses`. Refuses 5.
-#[no_mangle]
-pub extern "C" fn placer_inverses(poses: &[f64], inverses: &mut [f64]) -> u64
-    ensures { λ r. ⌜ Inverted (now (poses .entry)) (now (inverses .entry)) r (now (inverses .exit)) ⌝ }
-{
-    if let Checked::Refused(refusal) = check_poses(poses.len(), inverses.len(), poses.len()) {
-        return refusal_code(refusal);
-    }
-    write_inverses(poses, inverses);
-    0
+    answer_list(read_poses(poses), mean)
 }
 
 // The direct call. Refuses 1 to 9.

@@ -3,7 +3,7 @@ ghost use Prim.Native.Nat.{ℕ, _<_};
 ghost use mathlib.Core.Path.{_≡_};
 ghost use lib.ListN.{length};
 ghost use Rattle.placer.specs.Step.{isRecord, RecordWords, notARecord, sessionIn, wordsOf};
-use chains::MAX_CAMERAS;
+use limits::MAX_CAMERAS;
 use refusal::Refusal;
 use session::MAX_STREAM;
 use session::Session;

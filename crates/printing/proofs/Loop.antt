@@ -1,50 +1,83 @@
--- What the loop over the calls prints is what the stream's meaning prints: `loop-prints-meaning`. The loop stops where the next offset is the stream's
--- end; the calls of `streams` stop where a reply ends the stream. Such a reply names the stream's length as the next offset. Any other
--- leaves a state that passes the checks again, and where its command is the last, one call more answers End, which prints nothing.
--- Assumes nothing.
-use Prim.Native.Nat.{ℕ, zero, suc, _+_, _≤_, _<_}
+-- However the text is cut, calls of the whole-stream entry, one after the other, leave and print what the stream's meaning does: `rounds-give-whole`.
+-- First for a loop over single calls with all the room there is (`loopFrom`): it stops where the next offset is the stream's end, and the calls of
+-- `streams` where a reply ends the stream. Such a reply names the stream's length as the next offset. Any other leaves a state that passes the checks
+-- again, and where its command is the last, one call more answers End, which prints nothing. Then a part is cut off that loop. Assumes nothing.
+use Prim.Native.Nat.{ℕ, zero, suc, _+_, _-_, _≤_, _<_}
 use native.Mathlib.Decide.{decLe, ℕ-discrete}
 use native.Mathlib.Omega.{arith}
-use mathlib.Core.Path.{_≡_, refl, sym, ap, _∙_}
-use mathlib.Core.Bool.{true, false}
+use mathlib.Core.Path.{_≡_, refl, sym, ap, _∙_, subst}
+use mathlib.Core.Logic.{inl, inr}
+use mathlib.Core.Bool.{true, false, cond}
 use mathlib.Core.Option.{Option, none, some}
-use mathlib.Core.List.{List, [], _∷_, _++_, append-nil}
+use mathlib.Core.List.{List, [], _∷_, _++_, append-nil, append-assoc}
 use lib.ListN.{length, take}
+use lib.Dec.{ltb}
 use lib.Seq.{take-all, length-take-le}
 use borrow.Author.Tests.{lt-ltb, le-ltb}
 use Rattle.refusal.specs.declared.Refusal.{Refusal}
-use Rattle.refusal.specs.declared.Refusal.the-variants.{WrongLength}
 use Rattle.command.specs.Command.{Parsed, complete, broken, unknown, parse}
 use Rattle.session.specs.Session.{possible}
-use Rattle.session.specs.Call.{maxStream, State, Result, result, stopped, read, call}
+use Rattle.session.specs.Call.{maxStream, State, Result, result, stopped, callRefusal, read, call}
 use Rattle.session.specs.declared.Reply.the-variants.{End}
-use Rattle.session.proofs.Advancing.{parse-complete, call-advances}
-use Rattle.listing.specs.Listing.{refusalLine, replyText}
-use Rattle.listing.specs.StepText.{printedBy}
-use Rattle.streams.specs.Stream.{streamRefusal, meaning, endsStream, callsFrom, calls, Usable}
-use Rattle.streams.proofs.Streams.{command-goes-on, call-refused, call-end, call-reads, passes-of-usable, usable-of-passes, obeyed-answerTo, callsFrom-ends, callsFrom-goes-on, meaning-refused, calls-give-meaning, meaning-too-long, meaning-wrong-length}
+use Rattle.command.proofs.Decoding.{parse-complete}
+use Rattle.session.proofs.Advancing.{call-advances}
+use Rattle.listing.specs.Listing.{refusalLine, replyText, listingBytes, printedBy}
+use Rattle.streams.specs.Stream.{Answer, streamRefusal, lastState, meaning, endsStream, callsFrom, calls, Usable}
+use Rattle.streams.proofs.Streams.{command-goes-on, callRefusal-passes, callRefusal-refuses, call-end, call-reads, passes-of-usable, usable-of-passes, obeyed-answerTo, callsFrom-ends, callsFrom-goes-on, meaning-refused, calls-give-meaning, meaning-too-long}
 use Rattle.streams.proofs.Usable.{usable-of-check, usable-answer}
-use Rattle.printing.specs.Printed.{printed, loopText, freshState, inputBytes}
+use Rattle.stream_text.specs.StreamText.{Part, part, behind, partWithin, partIn}
+use Rattle.stream_text.proofs.Parts.{partWithin-nothing, partWithin-turn, partWithin-ends, partWithin-enough, partWithin-next, partWithin-advances, partWithin-keeps-passing, partIn-refused, partIn-passes}
+use Rattle.printing.specs.Printed.{printed, wholeOf, roundsFrom, freshState, inputBytes}
 
--- ---- the loop, turn by turn
+-- ---- a loop over single calls
 
-module _ (t : State) (stream : List ℕ) (at : ℕ) where
-  loop-end : (most : ℕ) → length stream ≤ at → loopText most t stream at ≡ []
-  unfolding loopText
-  loop-end zero h = refl
-  loop-end (suc most) h = rw (le-ltb at (length stream) h)
+-- While the offset is before the stream's end: what the call there prints, and then the same from the state that it leaves and the offset that it names.
+-- At most so many turns.
+unfoldable pub loopFrom : ℕ → State → List ℕ → ℕ → Part
+loopFrom zero t stream at = part t at []
+loopFrom (suc most) t stream at =
+    let r = call t stream at in
+    cond (ltb at (length stream)) (behind (printedBy r) (loopFrom most (r .after) stream (r .next))) (part t at [])
 
-  loop-turn : (most : ℕ) → at < length stream
-      → loopText (suc most) t stream at ≡ printedBy (call t stream at) ++ loopText most (call t stream at .after) stream (call t stream at .next)
-  unfolding loopText
-  loop-turn most h = rw (lt-ltb at (length stream) h)
+module _ (stream : List ℕ) where
+  loop-end : (most : ℕ) (t : State) (at : ℕ) → length stream ≤ at → loopFrom most t stream at ≡ part t at []
+  unfolding loopFrom
+  loop-end zero t at h = refl
+  loop-end (suc most) t at h = rw (le-ltb at (length stream) h)
 
--- ---- one call
+  loop-turn : (most : ℕ) (t : State) (at : ℕ) → at < length stream
+      → loopFrom (suc most) t stream at ≡ behind (printedBy (call t stream at)) (loopFrom most (call t stream at .after) stream (call t stream at .next))
+  unfolding loopFrom
+  loop-turn most t at h = rw (lt-ltb at (length stream) h)
+
+  -- Each turn goes on by a byte or more, so that any number of turns that is enough gives the same.
+  loop-enough : (m n : ℕ) (t : State) (at : ℕ) → length stream ≤ m + at → length stream ≤ n + at → loopFrom m t stream at ≡ loopFrom n t stream at
+  loop-enough zero n t at em en = loop-end zero t at (omega arith) ∙ sym (loop-end n t at (omega arith))
+  loop-enough (suc m) zero t at em en = loop-end (suc m) t at (omega arith) ∙ sym (loop-end zero t at (omega arith))
+  loop-enough (suc m) (suc n) t at em en =
+      go (decLe (length stream) at) (loop-enough m n (call t stream at .after) (call t stream at .next))
+    where
+      go : Dec (length stream ≤ at)
+          → (length stream ≤ m + call t stream at .next → length stream ≤ n + call t stream at .next
+          → loopFrom m (call t stream at .after) stream (call t stream at .next) ≡ loopFrom n (call t stream at .after) stream (call t stream at .next))
+          → loopFrom (suc m) t stream at ≡ loopFrom (suc n) t stream at
+      go (yes h) later = loop-end (suc m) t at h ∙ sym (loop-end (suc n) t at h)
+      go (no h) later =
+          let on = call-advances t stream at (omega arith) in
+          loop-turn m t at (omega arith)
+          ∙ ap (behind (printedBy (call t stream at))) (later (omega (arith, on)) (omega (arith, on)))
+          ∙ sym (loop-turn n t at (omega arith))
+
+-- ---- the loop and the calls
 
 -- The reply ends the stream, and the next offset is its end; or the commands go on in a state that passes the checks, at an offset inside.
 data Turn (stream : List ℕ) (r : Result) : Type 0 where
   last : endsStream (r .reply) ≡ true → r .next ≡ length stream → Turn stream r
   more : endsStream (r .reply) ≡ false → Usable (r .after) → r .next ≤ length stream → Turn stream r
+
+-- What answers leave and print, once the stream is at its end.
+abbrev leftBy : State → List ℕ → List Answer → Part
+leftBy t stream l = part (lastState t l) (length stream) (printed l)
 
 module _ (stream : List ℕ) (short : length stream ≤ maxStream) where
   call-turn : (t : State) (at : ℕ) → Usable t → at < length stream → Turn stream (call t stream at)
@@ -61,79 +94,204 @@ module _ (stream : List ℕ) (short : length stream ≤ maxStream) where
       go broken e = rw (reads ∙ ap (read t stream at) e) (last refl refl)
       go (unknown byte) e = rw (reads ∙ ap (read t stream at) e) (last refl refl)
 
-  -- ---- the loop and the calls
-
-  -- From an offset that is no further from the end than there are turns left, the loop prints what the calls answer.
+  -- From an offset that is no further from the end than there are turns left, the loop leaves and prints what the calls do.
   abbrev LoopCalls : ℕ → Type 0
   LoopCalls most =
       (t : State) (at : ℕ) → Usable t → at ≤ length stream → length stream ≤ most + at
-      → loopText most t stream at ≡ printed (callsFrom (suc most) t stream at)
+      → loopFrom most t stream at ≡ leftBy t stream (callsFrom (suc most) t stream at)
 
   -- At the stream's end the loop prints nothing, and neither does End.
-  loop-calls-end : (most : ℕ) (t : State) (at : ℕ) → Usable t → at ≡ length stream → loopText most t stream at ≡ printed (callsFrom (suc most) t stream at)
-  unfolding printed replyText endsStream
+  loop-calls-end : (most : ℕ) (t : State) (at : ℕ) → Usable t → at ≡ length stream → loopFrom most t stream at ≡ leftBy t stream (callsFrom (suc most) t stream at)
+  unfolding printed lastState replyText endsStream
   loop-calls-end most t at u e =
-      loop-end t stream at most (omega arith)
-      ∙ sym (ap printed (callsFrom-ends most t stream at (result End t at) (call-end t stream at (passes-of-usable t stream short u) e) refl))
+      loop-end stream most t at (omega arith)
+      ∙ ap (λ (n : ℕ). part t n []) e
+      ∙ sym (ap (leftBy t stream) (callsFrom-ends most t stream at (result End t at) (call-end t stream at (passes-of-usable t stream short u) e) refl))
 
   loop-calls-turn : (most : ℕ) → LoopCalls most → (t : State) (at : ℕ) → Usable t → at < length stream → length stream ≤ suc most + at
-      → loopText (suc most) t stream at ≡ printed (callsFrom (suc (suc most)) t stream at)
-  unfolding printed
-  loop-calls-turn most later t at u h enough = loop-turn t stream at most h ∙ go (call-turn t at u h)
+      → loopFrom (suc most) t stream at ≡ leftBy t stream (callsFrom (suc (suc most)) t stream at)
+  unfolding printed lastState
+  loop-calls-turn most later t at u h enough = loop-turn stream most t at h ∙ go (call-turn t at u h)
     where
       r : Result
       r = call t stream at
 
-      go : Turn stream r → printedBy r ++ loopText most (r .after) stream (r .next) ≡ printed (callsFrom (suc (suc most)) t stream at)
+      go : Turn stream r
+          → behind (printedBy r) (loopFrom most (r .after) stream (r .next)) ≡ leftBy t stream (callsFrom (suc (suc most)) t stream at)
       go (last ends next) =
-          ap (λ (l : List ℕ). printedBy r ++ l) (loop-end (r .after) stream (r .next) most (omega (arith, next)))
-          ∙ sym (ap printed (callsFrom-ends (suc most) t stream at r refl ends))
+          ap (behind (printedBy r)) (loop-end stream most (r .after) (r .next) (omega (arith, next)))
+          ∙ ap (λ (n : ℕ). part (r .after) n (printedBy r ++ [])) next
+          ∙ sym (ap (leftBy t stream) (callsFrom-ends (suc most) t stream at r refl ends))
       go (more on passes inside) =
-          ap (λ (l : List ℕ). printedBy r ++ l) (later (r .after) (r .next) passes inside (omega (arith, call-advances t stream at h)))
-          ∙ sym (ap printed (callsFrom-goes-on (suc most) t stream at r refl on))
+          ap (behind (printedBy r)) (later (r .after) (r .next) passes inside (omega (arith, call-advances t stream at h)))
+          ∙ sym (ap (leftBy t stream) (callsFrom-goes-on (suc most) t stream at r refl on))
 
   loop-calls : (most : ℕ) → LoopCalls most
   loop-calls zero t at u h enough = loop-calls-end zero t at u (omega arith)
   loop-calls (suc most) t at u h enough = go (ℕ-discrete at (length stream)) (loop-calls most)
     where
-      go : Dec (at ≡ length stream) → LoopCalls most → loopText (suc most) t stream at ≡ printed (callsFrom (suc (suc most)) t stream at)
+      go : Dec (at ≡ length stream) → LoopCalls most → loopFrom (suc most) t stream at ≡ leftBy t stream (callsFrom (suc (suc most)) t stream at)
       go (yes e) later = loop-calls-end (suc most) t at u e
       go (no n) later = loop-calls-turn most later t at u (omega arith) enough
 
+-- Where nothing is refused before all else, the loop from the stream's beginning leaves and prints what the stream's meaning does.
+pub loop-gives-whole : (t : State) (stream : List ℕ) → streamRefusal t stream ≡ none → loopFrom (length stream) t stream 0 ≡ wholeOf t stream
+unfolding calls
+loop-gives-whole t stream e =
+    let (short, u) = usable-of-passes t stream e in
+    loop-calls stream short (length stream) t 0 u (omega arith) (omega arith) ∙ ap (leftBy t stream) (calls-give-meaning t stream)
+
+-- ---- a part cut off the loop
+
+module _ (stream : List ℕ) where
+  -- What is left of the loop after a part, behind the part's text, is the loop.
+  pub loop-cut : (most n : ℕ) (t : State) (at room : ℕ) → length stream ≤ n + at
+      → let p = partWithin most t stream at room in
+      loopFrom n t stream at ≡ behind (p .text) (loopFrom n (p .after) stream (p .next))
+  loop-cut zero n t at room enough = ap (λ (p : Part). behind (p .text) (loopFrom n (p .after) stream (p .next))) (sym (partWithin-nothing stream t at room))
+  loop-cut (suc most) n t at room enough =
+      go (decLe (length stream) at) (decLe listingBytes room)
+      (loop-cut most n (call t stream at .after) (call t stream at .next) (room - length (printedBy (call t stream at))))
+    where
+      r : Result
+      r = call t stream at
+
+      later : Part
+      later = partWithin most (r .after) stream (r .next) (room - length (printedBy r))
+
+      go : Dec (length stream ≤ at) → Dec (listingBytes ≤ room)
+          → (length stream ≤ n + r .next → loopFrom n (r .after) stream (r .next) ≡ behind (later .text) (loopFrom n (later .after) stream (later .next)))
+          → let p = partWithin (suc most) t stream at room in
+          loopFrom n t stream at ≡ behind (p .text) (loopFrom n (p .after) stream (p .next))
+      go (yes h) d cut = rw (partWithin-ends stream (suc most) t at room (inl h)) refl
+      go (no h) (no narrow) cut = rw (partWithin-ends stream (suc most) t at room (inr (omega arith))) refl
+      go (no h) (yes holds) cut =
+          rw (partWithin-turn stream most t at room (omega arith) holds)
+          (loop-enough stream n (suc n) t at enough (omega arith)
+          ∙ loop-turn stream n t at (omega arith)
+          ∙ ap (behind (printedBy r)) (cut (omega (arith, call-advances t stream at (omega arith))))
+          ∙ ap (λ (l : List ℕ). part (loopFrom n (later .after) stream (later .next) .after) (loopFrom n (later .after) stream (later .next) .next) l)
+          (sym (append-assoc (printedBy r) (later .text) (loopFrom n (later .after) stream (later .next) .text))))
+
+-- ---- calls of the entry, one after the other
+
+module _ (stream : List ℕ) where
+  abbrev RoundsLoop : ℕ → Type 0
+  RoundsLoop most =
+      (rooms : ℕ → ℕ) → ((i : ℕ) → listingBytes ≤ rooms i)
+      → (n : ℕ) (t : State) (at : ℕ) → callRefusal t stream at ≡ none → length stream ≤ most + at → length stream ≤ n + at
+      → roundsFrom most rooms t stream at ≡ loopFrom n t stream at
+
+  -- A part that comes to the stream's end is all of the loop.
+  part-ends : (room n : ℕ) (t : State) (at : ℕ) → listingBytes ≤ room → callRefusal t stream at ≡ none → length stream ≤ n + at
+      → length stream ≤ partIn t stream at room .next → partIn t stream at room ≡ loopFrom n t stream at
+  part-ends room n t at holds passes enough ends =
+      let p = partWithin (length stream) t stream at room in
+      let is : partIn t stream at room ≡ p = partIn-passes t stream at room holds passes in
+      is
+      ∙ ap (part (p .after) (p .next)) (sym (append-nil (p .text)))
+      ∙ ap (behind (p .text)) (sym (loop-end stream n (p .after) (p .next) (subst (λ (q : Part). length stream ≤ q .next) is ends)))
+      ∙ sym (loop-cut stream (length stream) n t at room enough)
+
+  part-goes-on : (room n : ℕ) (t : State) (at : ℕ) → listingBytes ≤ room → callRefusal t stream at ≡ none → length stream ≤ n + at
+      → let p = partIn t stream at room in
+      (loopFrom n t stream at ≡ behind (p .text) (loopFrom n (p .after) stream (p .next))) × (callRefusal (p .after) stream (p .next) ≡ none) × (at ≤ p .next) × (at < length stream → at < p .next)
+  part-goes-on room n t at holds passes enough =
+      rw (partIn-passes t stream at room holds passes) (
+        loop-cut stream (length stream) n t at room enough,
+        partWithin-keeps-passing stream (length stream) t at room passes,
+        partWithin-next stream (length stream) t at room,
+        λ h.
+            subst (λ (p : Part). at < p .next) (partWithin-enough stream (suc (length stream)) (length stream) t at room (omega arith) (omega arith))
+            (partWithin-advances stream (length stream) t at room h holds),
+      )
+
+  rounds-loop : (most : ℕ) → RoundsLoop most
+  unfolding roundsFrom
+  rounds-loop zero rooms hold n t at passes enough again =
+      part-ends (rooms 0) n t at (hold 0) passes again (omega (arith, part-goes-on (rooms 0) n t at (hold 0) passes again .2))
+  rounds-loop (suc most) rooms hold n t at passes enough again = go (decLe (length stream) (p .next)) (rounds-loop most)
+    where
+      p : Part
+      p = partIn t stream at (rooms 0)
+
+      go : Dec (length stream ≤ p .next) → RoundsLoop most → roundsFrom (suc most) rooms t stream at ≡ loopFrom n t stream at
+      go (yes h) later = rw (le-ltb (p .next) (length stream) h) (part-ends (rooms 0) n t at (hold 0) passes again h)
+      go (no h) later =
+          let (cut, on, forward, moved) = part-goes-on (rooms 0) n t at (hold 0) passes again in
+          let further : at < p .next = moved (omega (arith, forward)) in
+          rw (lt-ltb (p .next) (length stream) (omega arith))
+          (ap (behind (p .text)) (later (λ i. rooms (suc i)) (λ i. hold (suc i)) n (p .after) (p .next) on (omega (arith, further)) (omega (arith, further))) ∙ sym cut)
+
 -- ---- whole streams
 
-loop-passed : (t : State) (stream : List ℕ) → streamRefusal t stream ≡ none → loopText (length stream) t stream 0 ≡ printed (meaning t stream)
-unfolding calls
-loop-passed t stream e =
-    let (short, u) = usable-of-passes t stream e in
-    loop-calls stream short (length stream) t 0 u (omega arith) (omega arith) ∙ ap printed (calls-give-meaning t stream)
-
--- 13 or 5 is the answer to the first call, and the loop makes no second.
-loop-refused : (t : State) (byte : ℕ) (later : List ℕ) (r : Refusal) → let stream = byte ∷ later in
-    streamRefusal t stream ≡ some r → loopText (length stream) t stream 0 ≡ printed (meaning t stream)
-unfolding printed
-loop-refused t byte later r e =
-    let stream = byte ∷ later in
-    loop-turn t stream 0 (length later) (omega arith)
-    ∙ ap (λ (x : Result). printedBy x ++ loopText (length later) (x .after) stream (x .next)) (call-refused t stream 0 r e)
-    ∙ ap (λ (l : List ℕ). printedBy (stopped t stream r) ++ l) (loop-end t stream (length stream) (length later) (omega arith))
-    ∙ sym (ap printed (meaning-refused t stream r e))
-
--- For every state and every stream the loop prints what the stream's meaning prints. In an empty stream it makes no call, so that there it
--- does not tell of a state that 5 turns away.
-pub loop-prints-meaning : (t : State) (stream : List ℕ) → (stream ≡ [] → Usable t) → loopText (length stream) t stream 0 ≡ printed (meaning t stream)
-loop-prints-meaning t [] passes = loop-passed t [] (passes-of-usable t [] (omega arith) (passes refl))
-loop-prints-meaning t (byte ∷ later) passes = go (streamRefusal t (byte ∷ later)) refl
+-- 13 or 5 is the answer to the first call, and there is no second.
+rounds-refused : (t : State) (stream : List ℕ) (rooms : ℕ → ℕ) → ((i : ℕ) → listingBytes ≤ rooms i) → (r : Refusal) → streamRefusal t stream ≡ some r
+    → roundsFrom (length stream) rooms t stream 0 ≡ wholeOf t stream
+unfolding roundsFrom printed lastState replyText
+rounds-refused t stream rooms hold r e = once (length stream) ∙ sym told
   where
-    go : (o : Option Refusal) → streamRefusal t (byte ∷ later) ≡ o
-        → loopText (length (byte ∷ later)) t (byte ∷ later) 0 ≡ printed (meaning t (byte ∷ later))
-    go none e = loop-passed t (byte ∷ later) e
-    go (some r) e = loop-refused t byte later r e
+    refused : partIn t stream 0 (rooms 0) ≡ part t (length stream) (refusalLine r)
+    refused = partIn-refused t stream 0 (rooms 0) (hold 0) r (callRefusal-refuses t stream 0 r e)
 
--- The one case where they differ.
-pub empty-unusable : (t : State) → (Usable t → ⊥) → (loopText (length {A = ℕ} []) t [] 0 ≡ []) × (printed (meaning t []) ≡ refusalLine WrongLength)
-unfolding printed replyText
-empty-unusable t wrong = (loop-end t [] 0 0 (omega arith), ap printed (meaning-wrong-length t [] (omega arith) wrong) ∙ append-nil (refusalLine WrongLength))
+    once : (most : ℕ) → roundsFrom most rooms t stream 0 ≡ part t (length stream) (refusalLine r)
+    once zero = refused
+    once (suc most) = rw (refused, le-ltb (length stream) (length stream) (omega arith)) refl
+
+    told : wholeOf t stream ≡ part t (length stream) (refusalLine r)
+    told = rw (meaning-refused t stream r e) (ap (part t (length stream)) (append-nil (refusalLine r)))
+
+-- Whatever the state and the stream, and however the text is cut, if every piece holds any reply: the calls of the entry, one after the other, leave and print
+-- what the stream's meaning does.
+pub rounds-give-whole : (t : State) (stream : List ℕ) (rooms : ℕ → ℕ) → ((i : ℕ) → listingBytes ≤ rooms i)
+    → roundsFrom (length stream) rooms t stream 0 ≡ wholeOf t stream
+rounds-give-whole t stream rooms hold = go (streamRefusal t stream) refl
+  where
+    go : (o : Option Refusal) → streamRefusal t stream ≡ o → roundsFrom (length stream) rooms t stream 0 ≡ wholeOf t stream
+    go none e =
+        rounds-loop stream (length stream) rooms hold (length stream) t 0 (callRefusal-passes t stream 0 e (omega arith)) (omega arith) (omega arith)
+        ∙ loop-gives-whole t stream e
+    go (some r) e = rounds-refused t stream rooms hold r e
+
+-- ---- the state at the end, for a loop over calls of the entry
+
+-- The state that is left once the stream is at its end.
+unfoldable pub stateAtEnd : State → List ℕ → ℕ → State
+stateAtEnd t stream at = elim (callRefusal t stream at) [ some r ↦ t | none ↦ loopFrom (length stream) t stream at .after ]
+
+pub stateAtEnd-whole : (t : State) (stream : List ℕ) → stateAtEnd t stream 0 ≡ lastState t (meaning t stream)
+unfolding stateAtEnd lastState
+stateAtEnd-whole t stream = go (streamRefusal t stream) refl
+  where
+    go : (o : Option Refusal) → streamRefusal t stream ≡ o → stateAtEnd t stream 0 ≡ lastState t (meaning t stream)
+    go none e = rw (callRefusal-passes t stream 0 e (omega arith), stateAtEnd) (ap (λ (p : Part). p .after) (loop-gives-whole t stream e))
+    go (some r) e = rw (callRefusal-refuses t stream 0 r e, stateAtEnd, meaning-refused t stream r e) refl
+
+-- One call of the entry with room for any reply: where commands are left, the same state is still to come, and the call went on; where none is left, that state is there.
+pub record OneRound (t : State) (stream : List ℕ) (at : ℕ) (p : Part) : Type 0 where
+  pub goes-on : p .next < length stream → stateAtEnd (p .after) stream (p .next) ≡ stateAtEnd t stream at
+  pub advances : p .next < length stream → at < p .next
+  pub ends : length stream ≤ p .next → p .after ≡ stateAtEnd t stream at
+
+pub one-round : (t : State) (stream : List ℕ) (at room : ℕ) → listingBytes ≤ room → OneRound t stream at (partIn t stream at room)
+unfolding stateAtEnd
+one-round t stream at room holds = go (callRefusal t stream at) refl
+  where
+    go : (o : Option Refusal) → callRefusal t stream at ≡ o → OneRound t stream at (partIn t stream at room)
+    go (some r) e =
+        rw (partIn-refused t stream at room holds r e)
+        (record {
+          goes-on = λ h. absurd (omega arith);
+          advances = λ h. absurd (omega arith);
+          ends = λ h. rw (e, stateAtEnd) refl;
+        })
+    go none e =
+        let (cut, on, forward, moved) = part-goes-on stream room (length stream) t at holds e (omega arith) in
+        record {
+          goes-on = λ h. rw (on, stateAtEnd) (rw (e, stateAtEnd) (sym (ap (λ (p : Part). p .after) cut)));
+          advances = λ h. moved (omega (arith, forward));
+          ends = λ h. rw (e, stateAtEnd) (ap (λ (p : Part). p .after) (part-ends stream room (length stream) t at holds e (omega arith) h));
+        }
 
 -- ---- what `rig` prints
 
@@ -151,7 +309,8 @@ meaning-cut t stream = go (decLe (length stream) inputBytes)
         meaning-too-long t (take inputBytes stream) (omega (arith, length-take-le inputBytes stream (omega arith)))
         ∙ sym (meaning-too-long t stream (omega arith))
 
--- For every input: the loop's text on what is read of it is what the whole input's meaning prints.
-pub rig-prints : (input : List ℕ) → let stream = take inputBytes input in
-    loopText (length stream) freshState stream 0 ≡ printed (meaning freshState input)
-rig-prints input = loop-prints-meaning freshState (take inputBytes input) (λ e. fresh-usable) ∙ ap printed (meaning-cut freshState input)
+-- For every input: the calls' text on what is read of it is what the whole input's meaning prints.
+pub rig-prints : (input : List ℕ) (rooms : ℕ → ℕ) → ((i : ℕ) → listingBytes ≤ rooms i) → let stream = take inputBytes input in
+    roundsFrom (length stream) rooms freshState stream 0 .text ≡ printed (meaning freshState input)
+rig-prints input rooms hold =
+    ap (λ (p : Part). p .text) (rounds-give-whole freshState (take inputBytes input) rooms hold) ∙ ap printed (meaning-cut freshState input)

@@ -1,10 +1,10 @@
--- Document 01's complete listing, worked out from the stream's bytes (`paper-listing`), and that the loop of `rig` prints it (`paper-loop`).
+-- Document 01's complete listing, worked out from the stream's bytes (`paper-listing`), and that calls of the whole-stream entry print it (`paper-rounds`).
 -- Assumes nothing.
-use Prim.Native.Nat.{ℕ}
+use Prim.Native.Nat.{ℕ, _≤_}
 use Prim.Native.Char.{code}
 use Prim.Native.String.{String}
 use Prim.Native.String as text
-use mathlib.Core.Path.{_≡_, refl, _∙_}
+use mathlib.Core.Path.{_≡_, refl, ap, _∙_}
 use mathlib.Core.List.{List, [], _∷_}
 use lib.ListN.{length}
 use lib.Ieee.{toBits, ofBits, ofInt, add, sub, mul, div, lt, eq}
@@ -13,13 +13,15 @@ use Rattle.arithmetic.specs.Pose.{mulPose}
 use Rattle.average.specs.Average.{averageIsometries}
 use Rattle.chains.specs.Layers.{isPlaced, parentOf, linksOf, startSpot, nextSpot, layersTo, layers}
 use Rattle.extrinsics.specs.Grid.{isHeld, spots}
-use Rattle.session.specs.Session.{commandRefusal, possible}
+use Rattle.session.specs.Session.{possible}
+use Rattle.session.specs.Commands.{commandRefusal}
 use Rattle.command.specs.Command.{parse}
 use Rattle.session.specs.Call.{replyTo, stateAfter}
 use Rattle.streams.specs.Stream.{streamRefusal, contentsFrom, contentsOf, answerTo, answers, stateAfterAll, endingReply, answersOf, meaning}
-use Rattle.listing.specs.Listing.{decimalWithin, decimalText, floatText, okLine, cameraLine, viewLine, cameraLineAt, viewLineAt, solvedText, replyText}
-use Rattle.printing.specs.Printed.{printed, loopText, freshState, paperStream, paperText}
-use Rattle.printing.proofs.Loop.{fresh-usable, loop-prints-meaning}
+use Rattle.listing.specs.Listing.{decimalWithin, decimalText, floatText, okLine, cameraLine, viewLine, cameraLineAt, viewLineAt, solvedText, replyText, listingBytes}
+use Rattle.stream_text.specs.StreamText.{Part}
+use Rattle.printing.specs.Printed.{printed, roundsFrom, freshState, paperStream, paperText}
+use Rattle.printing.proofs.Loop.{rounds-give-whole}
 
 -- The bytes of a text of plain letters, digits and blanks.
 abbrev codes : String → List ℕ
@@ -35,5 +37,5 @@ pub paper-listing : printed (meaning freshState paperStream) ≡ paperText
 unfolding printed paperStream paperText meaning streamRefusal contentsOf contentsFrom parse answersOf answers answerTo stateAfterAll endingReply commandRefusal possible replyTo stateAfter averageIsometries rootOf mulPose isHeld spots layers layersTo startSpot nextSpot isPlaced parentOf linksOf toBits ofBits ofInt add sub mul div lt eq replyText solvedText okLine cameraLineAt viewLineAt cameraLine viewLine decimalText floatText decimalWithin
 paper-listing = refl
 
-pub paper-loop : loopText (length paperStream) freshState paperStream 0 ≡ paperText
-paper-loop = loop-prints-meaning freshState paperStream (λ e. fresh-usable) ∙ paper-listing
+pub paper-rounds : (rooms : ℕ → ℕ) → ((i : ℕ) → listingBytes ≤ rooms i) → roundsFrom (length paperStream) rooms freshState paperStream 0 .text ≡ paperText
+paper-rounds rooms hold = ap (λ (p : Part). p .text) (rounds-give-whole freshState paperStream rooms hold) ∙ paper-listing

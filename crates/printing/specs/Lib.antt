@@ -1,2 +1,3 @@
--- What a whole stream prints, and document 01's example of it. Definitions only; the theorems are in proofs/.
+-- What a whole stream prints, document 01's example of it, and rows of streams beside their texts. Definitions only; the theorems are in proofs/.
 pub mod Printed
+pub mod Rows

@@ -1,5 +1,5 @@
--- What is printed for a whole stream: the texts of the stream's answers, and the texts of the calls that a loop makes as `rig` does.
--- Rests on what a stream means, in `streams`, and on what a reply prints, in `listing`.
+-- What is printed for a whole stream: the texts of the stream's answers; and what calls of the whole-stream entry, one after the other, leave and print.
+-- Rests on what a stream means, in `streams`, on what a reply prints, in `listing`, and on one call of the entry, in `stream_text`.
 use Prim.Native.Nat.{ℕ, zero, suc}
 use mathlib.Core.Bool.{cond}
 use mathlib.Core.List.{List, [], _∷_, _++_}
@@ -7,22 +7,27 @@ use lib.ListN.{length, replicate}
 use lib.Dec.{ltb}
 use Rattle.arithmetic.specs.Double.{Zero}
 use Rattle.session.specs.Session.{fresh, bufferLength}
-use Rattle.session.specs.Call.{State, state, maxStream, firstLength, secondLength, call}
-use Rattle.streams.specs.Stream.{Answer}
-use Rattle.listing.specs.StepText.{printedText, printedBy}
+use Rattle.session.specs.Call.{State, state, maxStream, firstLength, secondLength}
+use Rattle.streams.specs.Stream.{Answer, lastState, meaning}
+use Rattle.listing.specs.Listing.{printedText}
+use Rattle.stream_text.specs.StreamText.{Part, part, behind, partIn}
 
 -- What answers print, one after the other.
 unfoldable pub printed : List Answer → List ℕ
 printed [] = []
 printed (a ∷ later) = printedText (a .reply) (a .after) ++ printed later
 
--- What a loop over the calls prints from an offset on, as `obey_all` of `rig` is written: while the offset is before the stream's end, what the call there prints, and then the
--- same from the state that it leaves and the offset that it names. At most so many turns.
-unfoldable pub loopText : ℕ → State → List ℕ → ℕ → List ℕ
-loopText zero t stream at = []
-loopText (suc most) t stream at =
-    let r = call t stream at in
-    cond (ltb at (length stream)) (printedBy r ++ loopText most (r .after) stream (r .next)) []
+-- What a whole stream leaves and prints: the last of its answers' states, and their texts.
+abbrev pub wholeOf : State → List ℕ → Part
+wholeOf t stream = part (lastState t (meaning t stream)) (length stream) (printed (meaning t stream))
+
+-- The entry called again and again, the i-th time with text of `rooms i` bytes, until the next offset is the stream's end: what is left then, and all
+-- that was printed. At most so many calls after the first.
+unfoldable pub roundsFrom : ℕ → (ℕ → ℕ) → State → List ℕ → ℕ → Part
+roundsFrom zero rooms t stream at = partIn t stream at (rooms 0)
+roundsFrom (suc most) rooms t stream at =
+    let p = partIn t stream at (rooms 0) in
+    cond (ltb (p .next) (length stream)) (behind (p .text) (roundsFrom most (λ i. rooms (suc i)) (p .after) stream (p .next))) p
 
 -- What `rig` begins with: a fresh session, and zeros in the buffer and in both answers.
 abbrev pub freshState : State

@@ -1,5 +1,5 @@
 -- Document 01's table of refusals: the number of each and the detail that it names, 0 where it names none; and how checks follow one another. Assumes nothing.
-use Prim.Native.Nat.{ℕ, zero, suc}
+use Prim.Native.Nat.{ℕ}
 use mathlib.Core.Bool.{Bool, true, false}
 use mathlib.Core.Option.{Option, none, some}
 use mathlib.Core.List.{List, [], _∷_}

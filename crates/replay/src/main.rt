@@ -1,9 +1,9 @@
 // Replays a sample that was recorded from the Rust, without Rust at hand: square roots, and streams of commands. `stdin` has the
 // sample, and `stdout` what the Rust's side answers to it. `sh tests/record.sh SOURCE` makes both anew, from seed 7 and the source of
 // calibration-rs, commit 1c21d7f0aa.
-ghost use Prim.Native.Nat.{_+_, _≤_, _<_};
+ghost use Prim.Native.Nat.{_+_, _<_};
 ghost use lib.ListN.{length};
-use arithmetic::pose::POSE_FLOATS;
+use limits::POSE_FLOATS;
 use refusal::Refusal;
 use root::sqrt;
 use session::BUFFER_FLOATS;

@@ -148,14 +148,7 @@ fn print_step(step: Step, transforms: &[f64], chains: &[u8], text: &mut [u8]) ->
     io::print_decimal(STDOUT_FILENO, step.next as u64);
     let reply = step.reply;
     let session = step.session;
-    let length = write_reply(
-        reply,
-        session.cameras as usize,
-        session.views as usize,
-        transforms,
-        chains,
-        text,
-    );
+    let length = write_reply(reply, session, transforms, chains, text);
     match reply {
         Reply::End => io::write_all(STDOUT_FILENO, b" end\n"),
         Reply::Accepted => io::write_all(STDOUT_FILENO, b" accepted\n"),

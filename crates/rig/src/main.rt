@@ -1,52 +1,91 @@
-// Reads a stream of commands from standard input, has the session obey them one after the other, and prints what each answers.
+// Reads a stream of commands from standard input, has the session obey them one after the other, and prints what each answers. What cannot be read or
+// written is told on standard error.
+ghost use Rattle.session.specs.Session.{fresh};
+ghost use Rattle.session.specs.Call.{state};
+ghost use Rattle.rig.specs.AllObeyed.{AllObeyed};
+use descriptors::Input;
+use descriptors::read_to_end;
+use descriptors::write_whole;
 use libc::STDIN_FILENO;
 use libc::STDOUT_FILENO;
 use listing::LISTING_BYTES;
-use listing::step_text::obey_and_write;
 use session::BUFFER_FLOATS;
 use session::FIRST_FLOATS;
 use session::MAX_STREAM;
 use session::SECOND_BYTES;
+use session::Session;
+use stream_text::obey_stream;
 
 // One byte more than a stream may have, so that a longer one is read far enough to be refused.
 const INPUT_BYTES: usize = MAX_STREAM + 1;
 
-fn main() {
-    let mut input = [0u8; INPUT_BYTES];
-    let length = io::read_full(STDIN_FILENO, &mut input);
-    let mut buffer = [0.0f64; BUFFER_FLOATS];
-    let mut transforms = [0.0f64; FIRST_FLOATS];
-    let mut chains = [0u8; SECOND_BYTES];
-    let mut text = [0u8; LISTING_BYTES];
-    obey_all(
-        &input[..length],
-        &mut buffer,
-        &mut transforms,
-        &mut chains,
-        &mut text,
-    );
+// The session in the end, and whether all that was to be printed was written.
+pub struct Obeyed {
+    pub session: Session,
+    pub written: bool,
 }
 
-// Each command obeyed and its reply printed, one after the other: the loop that `loopText` of crates/printing tells of, which no contract
-// can say. An output that cannot be written to ends the stream.
+// An input that cannot be read to its end is not obeyed at all.
+fn main() {
+    let mut input = [0u8; INPUT_BYTES];
+    match read_to_end(STDIN_FILENO, &mut input) {
+        Input::Failed => {
+            os::fail(b"rig: standard input");
+        }
+        Input::Whole(length) => {
+            let mut buffer = [0.0f64; BUFFER_FLOATS];
+            let mut transforms = [0.0f64; FIRST_FLOATS];
+            let mut chains = [0u8; SECOND_BYTES];
+            let mut text = [0u8; LISTING_BYTES];
+            let obeyed = obey_all(
+                &input[..length],
+                &mut buffer,
+                &mut transforms,
+                &mut chains,
+                &mut text,
+            );
+            if !obeyed.written {
+                os::fail(b"rig: standard output");
+            }
+        }
+    }
+}
+
+// The whole stream obeyed from a fresh session on, in calls that each print what the text holds: the calls that `roundsFrom` of crates/printing tells of.
+// Which bytes are written, no contract can say. An output that cannot be written to ends the stream, and so does text that may not hold every reply.
 fn obey_all(
     stream: &[u8],
     buffer: &mut [f64],
     transforms: &mut [f64],
     chains: &mut [u8],
     text: &mut [u8],
-) {
+) -> Obeyed
+    ensures { λ r. ⌜ AllObeyed (state fresh (now (buffer .entry)) (now (transforms .entry)) (now (chains .entry))) (now (stream .entry)) r (now (buffer .exit)) (now (transforms .exit)) (now (chains .exit)) ⌝ }
+{
     let mut session = session::fresh();
+    if text.len() < LISTING_BYTES {
+        return Obeyed {
+            session: session,
+            written: false,
+        };
+    }
     let mut at = 0usize;
-    while at < stream.len() {
-        let answer = obey_and_write(session, stream, at, buffer, transforms, chains, text);
-        let step = answer.step;
-        let length = answer.length;
-        session = step.session;
-        if io::write_all(STDOUT_FILENO, &text[..length]) {
-            at = step.next;
-        } else {
-            at = stream.len();
+    let mut more = true;
+    while more {
+        let part = obey_stream(session, stream, at, buffer, transforms, chains, text);
+        session = part.session;
+        at = part.next;
+        let length = part.length;
+        if !write_whole(STDOUT_FILENO, &text[..length]) {
+            return Obeyed {
+                session: session,
+                written: false,
+            };
         }
+        more = at < stream.len();
+    }
+    Obeyed {
+        session: session,
+        written: true,
     }
 }

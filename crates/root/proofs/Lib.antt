@@ -6,5 +6,4 @@ mod Scale
 mod Bits
 pub mod Ends
 pub mod Nearest
-pub mod Use
 pub mod Cases

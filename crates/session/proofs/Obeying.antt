@@ -8,7 +8,7 @@ use lib.Ieee.{Float}
 use borrow.Author.Tests.{eq-eqb, ne-eqb}
 use Rattle.refusal.specs.declared.Refusal.{Refusal}
 use Rattle.command.specs.Command.{Command, parse}
-use Rattle.session.specs.Session.{commandRefusal}
+use Rattle.session.specs.Commands.{commandRefusal}
 use Rattle.session.specs.Call.{State, Result, result, replyTo, stateAfter, stopped, obeyed, read, callRefusal, call, Called}
 use Rattle.session.specs.Steps.{resultOf}
 use Rattle.session.specs.declared.Step.{Step}

@@ -3,18 +3,16 @@ use Prim.Native.Nat.{ℕ, _+_, _*_}
 use mathlib.Core.Path.{_≡_}
 use mathlib.Core.Bool.{true, false, not, _||_}
 use mathlib.Core.Option.{none}
-use mathlib.Core.List.{List}
 use lib.ListN.{getD}
 use lib.Dec.{eqb, leb}
-use lib.Ieee.{Float}
 use borrow.Author.Tests.{eqb-false, not-true, not-false}
 use Rattle.arithmetic.specs.Pose.{finitePose}
 use Rattle.arithmetic.specs.declared.pose.Pose.{Pose}
 use Rattle.refusal.specs.Table.{firstOf}
 use Rattle.refusal.specs.declared.Refusal.the-variants.{NoSize, OutsideRig, HeldAlready, NotFinite}
-use Rattle.chains.specs.Masks.{inMask}
-use Rattle.command.specs.Command.{place}
-use Rattle.session.specs.Session.{hasSize, namedCell, commandRefusal, possible}
+use Rattle.lists.specs.Masks.{inMask}
+use Rattle.session.specs.Session.{hasSize, namedCell, possible}
+use Rattle.session.specs.Pose.{poseCommandRefusal}
 use Rattle.session.specs.declared.Session.{Session}
 use Rattle.session.proofs.Refusals.{test-passed}
 use Rattle.session.proofs.PossibleRecords.{CellInside, cell-inside}
@@ -24,10 +22,10 @@ pub record PoseAccepted (s : Session) (view camera : ℕ) (p : Pose) : Type 0 wh
   pub not-held : inMask (getD (s .masks) camera 0) view ≡ false
   pub all-finite : finitePose p ≡ true
 
-pub pose-accepted : (s : Session) (buffer : List Float) (view camera : ℕ) (p : Pose) → possible s ≡ true
-    → commandRefusal s buffer (place view camera p) ≡ none → PoseAccepted s view camera p
-unfolding commandRefusal firstOf
-pose-accepted s buffer view camera p h e =
+pub pose-accepted : (s : Session) (view camera : ℕ) (p : Pose) → possible s ≡ true
+    → poseCommandRefusal s view camera p ≡ none → PoseAccepted s view camera p
+unfolding poseCommandRefusal firstOf
+pose-accepted s view camera p h e =
     let sized = test-passed (not (hasSize s)) NoSize _ e in
     let inside = test-passed (leb (s .views) view || leb (s .cameras) camera) (OutsideRig (namedCell view camera)) _ (sized .1) in
     let held = test-passed (inMask (getD (s .masks) camera 0) view) (HeldAlready (namedCell view camera)) _ (inside .1) in

@@ -9,10 +9,9 @@ use lib.ListN.{getD}
 use lib.Dec.{eqb, leb, ltb}
 use lib.Pow.{pow-pos}
 use borrow.Author.Tests.{lt-ltb, le-ltb, eq-eqb, ne-eqb, ltb-true, eqb-true, leb-false}
-use Rattle.chains.specs.Limits.{maxViews, maxCameras}
+use Rattle.limits.specs.Limits.{maxViews, maxCameras}
 use Rattle.inputs.specs.Inputs.{sizeRefusal}
-use Rattle.session.specs.Session.{possible, isNone}
-use Rattle.session.specs.Steps.{possibleSizes, possibleMasks, maskFits}
+use Rattle.session.specs.Session.{possible, isNone, possibleSizes, possibleMasks, maskFits}
 use Rattle.session.specs.declared.Session.{Session}
 use Rattle.command.proofs.Tests.{and-true, or-false}
 use Rattle.session.proofs.AllBelow.{allBelow-at}

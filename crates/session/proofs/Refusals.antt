@@ -9,7 +9,7 @@ use borrow.Author.Tests.{eqb-false, leb-false, ltb-false}
 use Rattle.refusal.specs.Table.{refuseIf, orElse, firstOf}
 use Rattle.refusal.specs.declared.Refusal.{Refusal}
 use Rattle.refusal.specs.declared.Refusal.the-variants.{InsufficientData, TooMany, InvalidReference}
-use Rattle.chains.specs.Limits.{maxViews, maxCameras}
+use Rattle.limits.specs.Limits.{maxViews, maxCameras}
 use Rattle.inputs.specs.Inputs.{sizeRefusal, checkedOf}
 use Rattle.inputs.specs.declared.Checked.{Checked}
 use Rattle.inputs.specs.declared.Checked.the-variants.{Refused, Passed}

@@ -7,7 +7,7 @@ use mathlib.Core.Bool.{false}
 use lib.Bits.{bitAnd, bitOr, and-block, and-mask, and-zero-r, or-disjoint}
 use lib.Pow.{pow-pos, split, shl-exact}
 use borrow.Author.Tests.{eqb-false}
-use Rattle.chains.specs.Masks.{inMask}
+use Rattle.lists.specs.Masks.{inMask}
 
 -- `1 << v` of 64 bits.
 pub one-shl : (v : ℕ) → v < 64 → 1 * 2 ^ v % 18446744073709551616 ≡ 2 ^ v

@@ -2,15 +2,12 @@
 use Prim.Native.Nat.{ℕ}
 use mathlib.Core.Path.{_≡_, refl}
 use mathlib.Core.Option.{Option, none, some}
-use mathlib.Core.List.{List}
-use lib.Ieee.{Float}
 use borrow.Author.Tests.{eq-eqb, ne-eqb}
 use Rattle.refusal.specs.Table.{refuseIf, orElse, firstOf}
 use Rattle.refusal.specs.declared.Refusal.{Refusal}
 use Rattle.refusal.specs.declared.Refusal.the-variants.{SizeAgain}
 use Rattle.inputs.specs.Inputs.{sizeRefusal}
-use Rattle.command.specs.Command.{size}
-use Rattle.session.specs.Session.{commandRefusal}
+use Rattle.session.specs.Size.{sizeCommandRefusal}
 use Rattle.session.specs.declared.Session.{Session}
 
 pub orElse-none : (o : Option Refusal) → orElse o none ≡ o
@@ -18,11 +15,11 @@ unfolding orElse
 orElse-none none = refl
 orElse-none (some r) = refl
 
-module _ (s : Session) (buffer : List Float) (views cameras reference : ℕ) where
-  pub size-again : (s .views ≡ 0 → ⊥) → commandRefusal s buffer (size views cameras reference) ≡ some SizeAgain
-  unfolding commandRefusal refuseIf orElse firstOf
+module _ (s : Session) (views cameras reference : ℕ) where
+  pub size-again : (s .views ≡ 0 → ⊥) → sizeCommandRefusal s views cameras reference ≡ some SizeAgain
+  unfolding sizeCommandRefusal refuseIf orElse firstOf
   size-again h = simp (ne-eqb (s .views) 0 h)
 
-  pub size-refusal : s .views ≡ 0 → commandRefusal s buffer (size views cameras reference) ≡ sizeRefusal views cameras reference
-  unfolding commandRefusal refuseIf firstOf
+  pub size-refusal : s .views ≡ 0 → sizeCommandRefusal s views cameras reference ≡ sizeRefusal views cameras reference
+  unfolding sizeCommandRefusal refuseIf firstOf
   size-refusal h = simp (eq-eqb (s .views) 0 h) (orElse-none (sizeRefusal views cameras reference))

@@ -16,7 +16,8 @@ use Rattle.extrinsics.specs.Rig.{Fitting}
 use Rattle.extrinsics.specs.Outcome.{gridRefusal, outcomeOf, answered, Answers}
 use Rattle.extrinsics.specs.declared.Outcome.{Outcome}
 use Rattle.command.specs.Command.{solve}
-use Rattle.session.specs.Session.{bufferLength, rigOf, sessionGrid, commandRefusal, sessionAfter, bufferAfter, possible}
+use Rattle.session.specs.Session.{bufferLength, rigOf, sessionGrid, possible}
+use Rattle.session.specs.Commands.{commandRefusal, sessionAfter, bufferAfter}
 use Rattle.session.specs.Call.{state, result, replyTo, firstAfter, secondAfter, stateAfter, obeyed}
 use Rattle.session.specs.declared.Session.{Session}
 use Rattle.session.specs.declared.Reply.the-variants.{Solved, Refused}

@@ -9,11 +9,12 @@ use mathlib.Core.List.{List}
 use lib.ListN.{length, length-append, length-drop}
 use Rattle.refusal.specs.declared.Refusal.{Refusal}
 use Rattle.refusal.specs.declared.Refusal.the-variants.{NoSize}
-use Rattle.chains.specs.Limits.{maxViews, maxCameras}
+use Rattle.limits.specs.Limits.{maxViews, maxCameras}
 use Rattle.extrinsics.specs.Estimate.{transforms, chains}
 use Rattle.extrinsics.specs.Outcome.{answered}
-use Rattle.command.specs.Command.{Command, size, place, solve, Parsed, complete, broken, unknown, parse}
-use Rattle.session.specs.Session.{sessionGrid, commandRefusal, sessionAfter}
+use Rattle.command.specs.Command.{Command, edit, solve, Parsed, complete, broken, unknown, parse}
+use Rattle.session.specs.Session.{sessionGrid}
+use Rattle.session.specs.Commands.{commandRefusal, sessionAfter}
 use Rattle.session.specs.Call.{firstLength, secondLength, State, Result, callRefusal, replyTo, firstAfter, secondAfter, stateAfter, obeyed, read, call}
 use Rattle.session.specs.declared.Reply.{Reply}
 use Rattle.session.specs.declared.Reply.the-variants.{End, Accepted, Solved, Refused}
@@ -50,8 +51,7 @@ module _ (t : State) (stream : List ℕ) (at : ℕ) (ready : Ready t stream at) 
   accepted-held : (command : Command) → commandRefusal (t .session) (t .buffer) command ≡ none
       → IfSolved (replyTo command) (HoldsRig (stateAfter t command))
   unfolding replyTo stateAfter sessionAfter firstAfter secondAfter
-  accepted-held (size v c r) e = tt
-  accepted-held (place v c p) e = tt
+  accepted-held (edit change) e = tt
   accepted-held solve e =
       let within = possible-within (t .session) (ready .record-possible) (some-views e) in
       record {

@@ -1,8 +1,8 @@
 -- One call of the library, by document 01: the checks before all else, the command at the offset, the reply, and everything that then stands in the record, the buffer and both answers.
--- Rests on the commands of `Command` and what they do in `Session`.
+-- Rests on the commands of `Command` and what they do in `Commands`.
 use Prim.Native.Nat.{ℕ, _+_}
 use mathlib.Core.Path.{_≡_}
-use mathlib.Core.Bool.{Bool, true, false, not, _&&_, _||_, cond}
+use mathlib.Core.Bool.{not, _||_, cond}
 use mathlib.Core.Option.{Option, none, some}
 use mathlib.Core.List.{List, [], _∷_}
 use lib.ListN.{length}
@@ -11,10 +11,11 @@ use lib.Ieee.{Float}
 use Rattle.refusal.specs.Table.{refuseIf, firstOf}
 use Rattle.refusal.specs.declared.Refusal.{Refusal}
 use Rattle.refusal.specs.declared.Refusal.the-variants.{WrongLength, UnknownCommand, Truncated, TooLong}
-use Rattle.extrinsics.specs.Estimate.{transforms, chains}
-use Rattle.extrinsics.specs.Outcome.{answered}
-use Rattle.command.specs.Command.{Command, size, place, solve, Parsed, complete, broken, unknown, parse}
-use Rattle.session.specs.Session.{bufferLength, sessionGrid, commandRefusal, sessionAfter, bufferAfter, possible}
+use Rattle.limits.specs.Limits.{maxViews, maxCameras, firstNeeds, secondNeeds}
+use Rattle.command.specs.Command.{Command, edit, solve, Parsed, complete, broken, unknown, parse}
+use Rattle.session.specs.Session.{bufferLength, possible}
+use Rattle.session.specs.Solve.{firstAfterSolve, secondAfterSolve}
+use Rattle.session.specs.Commands.{commandRefusal, sessionAfter, bufferAfter}
 use Rattle.session.specs.declared.Session.{Session}
 use Rattle.session.specs.declared.Step.{Step}
 use Rattle.session.specs.declared.Reply.{Reply}
@@ -26,10 +27,10 @@ maxStream = 65536
 
 -- "two lent answers of at least 560 floats and 32 bytes"
 abbrev pub firstLength : ℕ
-firstLength = 560
+firstLength = firstNeeds maxCameras maxViews
 
 abbrev pub secondLength : ℕ
-secondLength = 32
+secondLength = secondNeeds maxCameras
 
 -- All that a call can change.
 pub record State : Type 0 where
@@ -69,22 +70,19 @@ stopped t stream r = result (Refused r) t (length stream)
 -- ---- a command obeyed
 
 unfoldable pub replyTo : Command → Reply
-replyTo (size v c r) = Accepted
-replyTo (place v c p) = Accepted
+replyTo (edit e) = Accepted
 replyTo solve = Solved
 
 -- Solve writes both answers; no other command does.
 unfoldable pub firstAfter : State → Command → List Float
-unfolding answered transforms
-firstAfter t (size v c r) = t .first
-firstAfter t (place v c p) = t .first
-firstAfter t solve = answered none (transforms (sessionGrid (t .session) (t .buffer))) (t .first)
+unfolding firstAfterSolve
+firstAfter t (edit e) = t .first
+firstAfter t solve = firstAfterSolve (t .session) (t .buffer) (t .first)
 
 unfoldable pub secondAfter : State → Command → List ℕ
-unfolding answered chains
-secondAfter t (size v c r) = t .second
-secondAfter t (place v c p) = t .second
-secondAfter t solve = answered none (chains (sessionGrid (t .session) (t .buffer))) (t .second)
+unfolding secondAfterSolve
+secondAfter t (edit e) = t .second
+secondAfter t solve = secondAfterSolve (t .session) (t .buffer) (t .second)
 
 unfoldable pub stateAfter : State → Command → State
 unfolding sessionAfter bufferAfter firstAfter secondAfter

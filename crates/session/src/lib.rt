@@ -4,14 +4,21 @@ ghost use Rattle.inputs.specs.Inputs.{checkedOf};
 ghost use Rattle.session.specs.Session.{fresh};
 ghost use Rattle.session.specs.Call.{state, callRefusal, Called};
 
-mod commands;
+pub mod commands;
+mod pose;
 mod record;
+mod replies;
+mod size;
+mod solve;
 
 use crate::commands::obey_command;
-use crate::commands::refuse;
 use crate::record::is_possible;
-use chains::MAX_CAMERAS;
+use crate::replies::refuse;
 use inputs::Checked;
+use limits::CHAIN_BYTES;
+use limits::MAX_CAMERAS;
+use limits::MAX_VIEWS;
+use limits::POSE_FLOATS;
 use refusal::Refusal;
 
 // The most bytes of a stream.
@@ -20,10 +27,10 @@ pub const MAX_STREAM: usize = 65536;
 // The floats of the buffer: seven for each cell of 64 views and 16 cameras.
 pub const BUFFER_FLOATS: usize = 7168;
 
-// The least floats of the first answer, and the least bytes of the second.
-pub const FIRST_FLOATS: usize = 560;
+// The least floats of the first answer, and the least bytes of the second: for as many cameras and views as a rig may have.
+pub const FIRST_FLOATS: usize = POSE_FLOATS * (MAX_CAMERAS + MAX_VIEWS);
 
-pub const SECOND_BYTES: usize = 32;
+pub const SECOND_BYTES: usize = CHAIN_BYTES * MAX_CAMERAS;
 
 // Bit v of a camera's mask is set when view v holds a pose of that camera. A fresh session is all zeros: no sizes, no poses.
 pub struct Session {
@@ -63,7 +70,7 @@ pub fn fresh() -> Session
 }
 
 // 13, then 5, and 11 for an offset past the end.
-fn check_call(
+pub fn check_call(
     session: Session,
     stream: &[u8],
     at: usize,

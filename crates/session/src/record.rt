@@ -1,14 +1,42 @@
-// The check of a session record that is handed in: whether accepted commands can leave it.
+// The session record changed, one part a function, and checked where it is handed in: whether accepted commands can leave it. A fresh one is made by
+// `fresh`, and the crate `placer` lays it into words for C.
 ghost use Prim.Native.Nat.{_≤_, _<_};
 ghost use mathlib.Core.Path.{_≡_};
-ghost use Rattle.chains.specs.Limits.{maxViews, maxCameras};
-ghost use Rattle.session.specs.Session.{possible};
-ghost use Rattle.session.specs.Steps.{possibleSizes, possibleMasks, maskFits};
+ghost use Rattle.limits.specs.Limits.{maxViews, maxCameras};
+ghost use Rattle.session.specs.Session.{withSizes, withMask, possible, possibleSizes, possibleMasks, maskFits};
 use crate::Session;
-use chains::MAX_CAMERAS;
 use inputs::Checked;
-use inputs::MAX_VIEWS;
 use inputs::check_sizes;
+use limits::MAX_CAMERAS;
+use limits::MAX_VIEWS;
+
+// The record with other sizes.
+pub fn with_sizes(session: Session, views: u8, cameras: u8, reference: u8) -> Session
+    ensures { λ r. ⌜ r ≡ withSizes session views cameras reference ⌝ }
+{
+    let masks = session.masks;
+    Session {
+        masks: masks,
+        views: views,
+        cameras: cameras,
+        reference: reference,
+    }
+}
+
+// The record with another mask for one camera.
+pub fn with_mask(session: Session, camera: u8, mask: u64) -> Session
+    requires { ⌜ camera < maxCameras ⌝ }
+    ensures { λ r. ⌜ r ≡ withMask session camera mask ⌝ }
+{
+    let mut masks = session.masks;
+    masks[camera as usize] = mask;
+    Session {
+        masks: masks,
+        views: session.views,
+        cameras: session.cameras,
+        reference: session.reference,
+    }
+}
 
 // No sizes at all, or sizes that Size accepts.
 fn has_possible_sizes(session: Session) -> bool
@@ -56,6 +84,7 @@ fn has_possible_masks(session: Session) -> bool
     true
 }
 
+// Each part of the record by its own check; the masks are looked at where the sizes are possible.
 pub fn is_possible(session: Session) -> bool
     ensures { λ r. ⌜ r ≡ possible session ⌝ }
 {

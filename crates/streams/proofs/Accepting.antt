@@ -9,19 +9,19 @@ use mathlib.Core.List.{List, [], _∷_}
 use lib.ListN.{getD}
 use lib.Dec.{leb}
 use lib.Ieee.{Float}
-use borrow.Author.Tests.{leb-false, eqb-true, eqb-false, not-true, not-false, le-ltb, lt-leb, eq-eqb, ne-eqb}
+use borrow.Author.Tests.{leb-false, eqb-true, eqb-false, not-true, not-false, lt-leb, eq-eqb, ne-eqb}
 use Rattle.arithmetic.specs.Pose.{finitePose}
 use Rattle.arithmetic.specs.declared.pose.Pose.{Pose}
 use Rattle.refusal.specs.Table.{refuseIf, firstOf}
 use Rattle.refusal.specs.declared.Refusal.{Refusal}
 use Rattle.refusal.specs.declared.Refusal.the-variants.{NoSize, SizeAgain, OutsideRig, HeldAlready, NotFinite}
-use Rattle.chains.specs.Limits.{maxViews, maxCameras}
-use Rattle.chains.specs.Masks.{inMask}
+use Rattle.lists.specs.Masks.{inMask}
 use Rattle.inputs.specs.Inputs.{sizeRefusal}
 use Rattle.extrinsics.specs.Outcome.{gridRefusal}
 use Rattle.inputs.proofs.Answering.{refuseIf-none, AllNone, firstOf-none-all, or-false, Sizes, sizeRefusal-none, sizeRefusal-sizes}
 use Rattle.command.specs.Command.{size, place, solve}
-use Rattle.session.specs.Session.{hasSize, sessionGrid, commandRefusal, namedCell}
+use Rattle.session.specs.Session.{hasSize, sessionGrid, namedCell}
+use Rattle.session.specs.Commands.{editRefusal, commandRefusal}
 use Rattle.session.specs.declared.Session.{Session}
 
 -- ---- checks that pass
@@ -35,7 +35,7 @@ unfolding firstOf
 firstOf-all-none [] h = refl
 firstOf-all-none (check ∷ later) (e, h) = rw e (firstOf-all-none later h)
 
--- ---- commands
+-- ---- edits
 
 -- Pose names a cell inside the sizes that is not held, and its seven numbers are finite.
 pub record Placeable (s : Session) (view camera : ℕ) (p : Pose) : Type 0 where
@@ -44,19 +44,19 @@ pub record Placeable (s : Session) (view camera : ℕ) (p : Pose) : Type 0 where
   pub not-held : inMask (getD (s .masks) camera 0) view ≡ false
   pub all-finite : finitePose p ≡ true
 
-module _ (s : Session) (buffer : List Float) where
+module _ (s : Session) where
   module _ (views cameras reference : ℕ) where
-    pub size-checks : commandRefusal s buffer (size views cameras reference)
+    pub size-checks : editRefusal s (size views cameras reference)
         ≡ firstOf (refuseIf (hasSize s) SizeAgain ∷ sizeRefusal views cameras reference ∷ [])
-    unfolding commandRefusal
+    unfolding editRefusal
     size-checks = refl
 
-    pub size-accepted : commandRefusal s buffer (size views cameras reference) ≡ none → (s .views ≡ 0) × Sizes views cameras reference
+    pub size-accepted : editRefusal s (size views cameras reference) ≡ none → (s .views ≡ 0) × Sizes views cameras reference
     size-accepted e =
         let (again, (sizes, _)) = firstOf-none-all _ (sym size-checks ∙ e) in
         (eqb-true _ _ (not-false _ (refuseIf-none _ _ again)), sizeRefusal-none views cameras reference sizes)
 
-    pub accepts-size : s .views ≡ 0 → Sizes views cameras reference → commandRefusal s buffer (size views cameras reference) ≡ none
+    pub accepts-size : s .views ≡ 0 → Sizes views cameras reference → editRefusal s (size views cameras reference) ≡ none
     accepts-size e sizes =
         size-checks
         ∙ firstOf-all-none _ (refuseIf-false _ _ (ap not (eq-eqb _ _ e)), (sizeRefusal-sizes views cameras reference sizes, tt))
@@ -70,11 +70,11 @@ module _ (s : Session) (buffer : List Float) where
         ∷ refuseIf (not (finitePose p)) (NotFinite (view * s .cameras + camera))
         ∷ []
 
-    pub place-checks : commandRefusal s buffer (place view camera p) ≡ firstOf placeChecks
-    unfolding commandRefusal
+    pub place-checks : editRefusal s (place view camera p) ≡ firstOf placeChecks
+    unfolding editRefusal
     place-checks = refl
 
-    pub place-accepted : commandRefusal s buffer (place view camera p) ≡ none → Placeable s view camera p
+    pub place-accepted : editRefusal s (place view camera p) ≡ none → Placeable s view camera p
     place-accepted e =
         let (_, (outside, (held, (not-finite, _)))) = firstOf-none-all placeChecks (sym place-checks ∙ e) in
         let (view-outside, camera-outside) = or-false _ _ (refuseIf-none _ _ outside) in
@@ -85,7 +85,7 @@ module _ (s : Session) (buffer : List Float) where
           all-finite = not-false _ (refuseIf-none _ _ not-finite);
         }
 
-    pub accepts-place : Placeable s view camera p → commandRefusal s buffer (place view camera p) ≡ none
+    pub accepts-place : Placeable s view camera p → editRefusal s (place view camera p) ≡ none
     accepts-place h =
         place-checks
         ∙ firstOf-all-none placeChecks (
@@ -102,6 +102,9 @@ module _ (s : Session) (buffer : List Float) where
         inside : leb (s .views) view || leb (s .cameras) camera ≡ false
         inside = rw (lt-leb (s .views) view (h .view-inside)) (lt-leb (s .cameras) camera (h .camera-inside))
 
+-- ---- Solve
+
+module _ (s : Session) (buffer : List Float) where
   pub solve-checks : commandRefusal s buffer solve ≡ firstOf (refuseIf (not (hasSize s)) NoSize ∷ gridRefusal (sessionGrid s buffer) ∷ [])
   unfolding commandRefusal
   solve-checks = refl

@@ -10,7 +10,7 @@ use lib.Seq.{getD-take, getD-drop, getD-append-add, length-take-le}
 use lib.Ieee.{Float, nan}
 use Rattle.arithmetic.specs.Pose.{poseAt, flat}
 use Rattle.arithmetic.specs.declared.pose.Pose.{Pose}
-use Rattle.chains.specs.Limits.{maxCameras}
+use Rattle.limits.specs.Limits.{maxCameras}
 use Rattle.session.specs.Session.{cellStart}
 
 -- Seven floats of a list that are those of a pose.
@@ -35,8 +35,11 @@ module _ (l : List Float) (at : ℕ) (p : Pose) (inside : at + 7 ≤ length l) w
       ap (λ (i : ℕ). getD put (i + k) nan) (sym length-front)
       ∙ getD-append-add (take at l) (flat p ++ drop (at + 7) l) k nan
 
+  pub getD-put-within : (k : ℕ) → k < 7 → getD put (at + k) nan ≡ getD (flat p) k nan
+  getD-put-within k h = getD-from k ∙ List·getD-append (flat p) (drop (at + 7) l) nan k h
+
   pub poseAt-put : poseAt put at ≡ p
-  poseAt-put = poseAt-flat put at p (λ k h. getD-from k ∙ List·getD-append (flat p) (drop (at + 7) l) nan k h)
+  poseAt-put = poseAt-flat put at p getD-put-within
 
   pub getD-put-before : (i : ℕ) → i < at → getD put i nan ≡ getD l i nan
   getD-put-before i h =

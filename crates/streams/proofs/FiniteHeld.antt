@@ -17,19 +17,20 @@ use Rattle.arithmetic.specs.declared.pose.Pose.{Pose}
 use Rattle.refusal.specs.Table.{refuseIf, refuseAt, firstOf}
 use Rattle.refusal.specs.declared.Refusal.{Refusal}
 use Rattle.refusal.specs.declared.Refusal.the-variants.{NotFinite, NoSize}
-use Rattle.chains.specs.Limits.{maxCameras}
-use Rattle.chains.specs.Masks.{inMask}
+use Rattle.limits.specs.Limits.{maxCameras}
+use Rattle.lists.specs.Masks.{inMask}
 use Rattle.extrinsics.specs.Grid.{Grid}
 use Rattle.extrinsics.specs.Outcome.{isNotFinite, lowestNotFinite, notFinite, lowestEmptyView, gridRefusal}
 use Rattle.extrinsics.specs.Rig.{rigCell, rigGrid}
 use Rattle.extrinsics.specs.declared.grid.Cell.the-variants.{Empty, Held}
 use Rattle.inputs.proofs.Answering.{refuseAt-none}
-use Rattle.inputs.proofs.Lowest.{lowest-nothing}
-use Rattle.chains.proofs.Tabulated.{getD-tabulate}
+use Rattle.lists.proofs.Lowest.{lowest-nothing}
+use Rattle.lists.proofs.Tabulated.{getD-tabulate}
 use Rattle.demands.proofs.GridRefusals.{left, gridRefusal-unreached, gridRefusal-emptyView}
 use Rattle.demands.proofs.HeldCells.{some-column}
-use Rattle.command.specs.Command.{Command, size, place, solve}
-use Rattle.session.specs.Session.{fresh, bufferLength, cellStart, hasSize, rigOf, sessionGrid, commandRefusal, possible}
+use Rattle.command.specs.Command.{size, place, Command, edit, solve}
+use Rattle.session.specs.Session.{fresh, bufferLength, cellStart, hasSize, rigOf, sessionGrid, possible}
+use Rattle.session.specs.Commands.{commandRefusal}
 use Rattle.session.specs.Call.{maxStream, firstLength, secondLength, State, state, stateAfter}
 use Rattle.session.specs.declared.Session.{Session}
 use Rattle.streams.specs.Stream.{contentsOf, Answer, stateAfterAll, calls, Usable}
@@ -45,11 +46,11 @@ use Rattle.streams.proofs.Usable.{usable-after-all}
 
 offered-finite : (t : State) (command : Command) → commandRefusal (t .session) (t .buffer) command ≡ none
     → (h : HeldPose) → Among h (offered command) → T (finitePose (h .pose))
-unfolding offered
-offered-finite t (size v c r) e h m = absurd (List·Memᴰ·not-nil m)
-offered-finite t (place v c p) e h m =
+unfolding commandRefusal offered
+offered-finite t (edit (size v c r)) e h m = absurd (List·Memᴰ·not-nil m)
+offered-finite t (edit (place v c p)) e h m =
     let same : h .pose ≡ p = ap (λ (x : HeldPose). x .pose) (List·Memᴰ·eq-of-singleton m) in
-    rw (same, place-accepted (t .session) (t .buffer) v c p e .all-finite) tt
+    rw (same, place-accepted (t .session) v c p e .all-finite) tt
 offered-finite t solve e h m = absurd (List·Memᴰ·not-nil m)
 
 -- "Pose checks 12, 23, 7": an accepted one has seven finite numbers.

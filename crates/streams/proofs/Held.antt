@@ -18,17 +18,19 @@ use borrow.Author.Tests.{eqb-true, eq-eqb, ne-eqb}
 use Rattle.arithmetic.specs.Pose.{poseAt}
 use Rattle.arithmetic.specs.declared.pose.Pose.{Pose}
 use Rattle.refusal.specs.declared.Refusal.{Refusal}
-use Rattle.chains.specs.Limits.{maxViews, maxCameras}
-use Rattle.chains.specs.Masks.{inMask}
+use Rattle.limits.specs.Limits.{maxViews, maxCameras}
+use Rattle.lists.specs.Masks.{inMask}
 use Rattle.extrinsics.proofs.MaskUnion.{inMask-zero}
-use Rattle.command.specs.Command.{Command, size, place, solve}
-use Rattle.session.specs.Session.{fresh, bufferLength, cellStart, commandRefusal, sessionAfter, bufferAfter}
+use Rattle.command.specs.Command.{Edit, size, place, Command, edit, solve}
+use Rattle.session.specs.Session.{fresh, bufferLength, cellStart}
+use Rattle.session.specs.Pose.{bufferAfterPose}
+use Rattle.session.specs.Commands.{commandRefusal, sessionAfter, bufferAfter}
 use Rattle.session.specs.Call.{maxStream, firstLength, secondLength, State, state, stateAfter}
 use Rattle.streams.specs.Stream.{contentsOf, answerTo, stateAfterAll, lastState, calls, Usable}
 use Rattle.streams.specs.Held.{HeldPose, heldPose, Among, offered, acceptedPoses, timesHeld, HoldsExactly}
 use Rattle.streams.proofs.Accepting.{place-accepted}
 use Rattle.streams.proofs.Cells.{poseAt-put, getD-put-before, getD-put-after, poseAt-agree, cells-apart}
-use Rattle.streams.proofs.MaskBits.{inMask-plus-same, inMask-plus-other}
+use Rattle.lists.proofs.MaskBits.{inMask-plus-same, inMask-plus-other}
 use Rattle.streams.proofs.Records.{sound-fresh, has-sizes, sound-of-possible, possible-of-sound}
 use Rattle.streams.proofs.Streams.{calls-leave}
 use Rattle.streams.proofs.Usable.{usable-answer, usable-after-all, answerTo-accepted, answerTo-refused, cell-inside}
@@ -62,7 +64,7 @@ pub record PlacesOne (t : State) (command : Command) (v c : ℕ) (p : Pose) : Ty
   pub view-fits : v < maxViews
   pub was-clear : inMask (getD (t .session .masks) c 0) v ≡ false
   pub new-masks : answerTo t command .after .session .masks ≡ set (t .session .masks) c (getD (t .session .masks) c 0 + 2 ^ v)
-  pub new-buffer : answerTo t command .after .buffer ≡ bufferAfter (t .buffer) (place v c p)
+  pub new-buffer : answerTo t command .after .buffer ≡ bufferAfterPose (t .buffer) v c p
 
 placed-accepted : (t : State) (command : Command) → commandRefusal (t .session) (t .buffer) command ≡ none → placed t command ≡ offered command
 unfolding placed
@@ -76,21 +78,21 @@ abbrev OneCommand : State → Command → Type 0
 OneCommand t command = PlacesNone t command ⊎ ((v c : ℕ) × (p : Pose) × PlacesOne t command v c p)
 
 module _ (t : State) (u : Usable t) where
-  one-accepted : (command : Command) → commandRefusal (t .session) (t .buffer) command ≡ none → OneCommand t command
-  unfolding offered stateAfter sessionAfter
-  one-accepted (size v c r) e =
-      let answered = answerTo-accepted t (size v c r) e in
-      inl (record { none-placed = placed-accepted t (size v c r) e; same-masks = rw answered; same-buffer = rw answered })
-  one-accepted (place v c p) e =
-      let answered = answerTo-accepted t (place v c p) e in
-      let here = place-accepted (t .session) (t .buffer) v c p e in
+  one-edit : (change : Edit) → commandRefusal (t .session) (t .buffer) (edit change) ≡ none → OneCommand t (edit change)
+  unfolding offered commandRefusal stateAfter sessionAfter bufferAfter
+  one-edit (size v c r) e =
+      let answered = answerTo-accepted t (edit (size v c r)) e in
+      inl (record { none-placed = placed-accepted t (edit (size v c r)) e; same-masks = rw answered; same-buffer = rw answered })
+  one-edit (place v c p) e =
+      let answered = answerTo-accepted t (edit (place v c p)) e in
+      let here = place-accepted (t .session) v c p e in
       let sizes = has-sizes (t .session) (sound-of-possible (t .session) (u .record-possible)) (omega (arith, here .view-inside)) in
       inr (
         v,
         c,
         p,
         record {
-          one-placed = placed-accepted t (place v c p) e;
+          one-placed = placed-accepted t (edit (place v c p)) e;
           camera-fits = omega (arith, here .camera-inside, sizes .cameras-fit);
           view-fits = omega (arith, here .view-inside, sizes .views-fit);
           was-clear = here .not-held;
@@ -98,6 +100,10 @@ module _ (t : State) (u : Usable t) where
           new-buffer = rw answered;
         },
       )
+
+  one-accepted : (command : Command) → commandRefusal (t .session) (t .buffer) command ≡ none → OneCommand t command
+  unfolding offered stateAfter sessionAfter
+  one-accepted (edit change) e = one-edit change e
   one-accepted solve e =
       let answered = answerTo-accepted t solve e in
       inl (record { none-placed = placed-accepted t solve e; same-masks = rw answered; same-buffer = rw answered })
@@ -169,7 +175,7 @@ timesHeld-append v c (h ∷ l) m = go (eqb (h .view) v && eqb (h .camera) c) (ti
     go false e = omega arith
 
 module _ (t : State) (u : Usable t) (sixteen : length (t .session .masks) ≡ maxCameras) where
-  masks-after : (command : Command) → length (answerTo t command .after .session .masks) ≡ maxCameras
+  pub masks-after : (command : Command) → length (answerTo t command .after .session .masks) ≡ maxCameras
   masks-after command =
       ⊎-elim (λ n. ap length (n .same-masks) ∙ sixteen)
       (λ (v, c, p, n). ap length (n .new-masks) ∙ length-set (t .session .masks) c _ ∙ sixteen)
@@ -226,11 +232,11 @@ module _ (t : State) (u : Usable t) (command : Command) where
     cell-fits = subst (λ (m : ℕ). cellStart w d + 7 ≤ m) (sym (u .buffer-fits)) (cell-inside w d (n .view-fits) (n .camera-fits))
 
     written-step : poseAt (answerTo t command .after .buffer) (cellStart w d) ≡ p
-    unfolding bufferAfter
+    unfolding bufferAfterPose
     written-step = rw (n .new-buffer) (poseAt-put (t .buffer) (cellStart w d) p cell-fits)
 
     apart-step : (i : ℕ) → (i < cellStart w d) ⊎ (cellStart w d + 7 ≤ i) → getD (answerTo t command .after .buffer) i nan ≡ getD (t .buffer) i nan
-    unfolding bufferAfter
+    unfolding bufferAfterPose
     apart-step i (inl h) = rw (n .new-buffer) (getD-put-before (t .buffer) (cellStart w d) p cell-fits i h)
     apart-step i (inr h) = rw (n .new-buffer) (getD-put-after (t .buffer) (cellStart w d) p cell-fits i h)
 

@@ -1,5 +1,4 @@
--- The theorems on records, streams, held poses and Solve, and the laws they rest on.
-pub mod MaskBits
+-- The theorems on records, streams, held poses, Solve and one call, and the laws they rest on.
 pub mod Accepting
 pub mod Records
 pub mod Usable
@@ -9,8 +8,13 @@ pub mod Streams
 pub mod Striking
 pub mod Cells
 pub mod Held
+pub mod HeldFold
 pub mod SolveDirect
 pub mod RustGrids
 pub mod SolveDemands
 pub mod SolveInStreams
 pub mod FiniteHeld
+pub mod DecidingParts
+pub mod CallWords
+pub mod AcceptedCalls
+pub mod CallDemand1

@@ -14,7 +14,7 @@ use lib.Ieee.{Float, binary64, ofBits}
 use borrow.Author.Tests.{le-leb, lt-leb}
 use Rattle.arithmetic.specs.Pose.{vec3, quaternion, pose}
 use Rattle.arithmetic.specs.declared.pose.Pose.{Pose}
-use Rattle.command.specs.Command.{Command, size, place, solve, sizeByte, poseByte, solveByte, sizeWidth, poseWidth, solveWidth, wordAt, doubleAt, offeredPose, Parsed, complete, broken, unknown, parse}
+use Rattle.command.specs.Command.{size, place, Command, edit, solve, sizeByte, poseByte, solveByte, sizeWidth, poseWidth, solveWidth, wordAt, doubleAt, offeredPose, Parsed, complete, broken, unknown, parse}
 
 -- ---- what is parsed goes by the bytes from the offset on, and by how many there are
 
@@ -43,8 +43,8 @@ wholeWhere room width command = cond room (complete command width) broken
 
 parseOf : (ℕ → ℕ) → (ℕ → Bool) → Parsed
 parseOf byte room =
-    cond (eqb (byte 0) sizeByte) (wholeWhere (room sizeWidth) sizeWidth (size (byte 1) (byte 2) (byte 3)))
-    (cond (eqb (byte 0) poseByte) (wholeWhere (room poseWidth) poseWidth (place (byte 1) (byte 2) (poseOf byte)))
+    cond (eqb (byte 0) sizeByte) (wholeWhere (room sizeWidth) sizeWidth (edit (size (byte 1) (byte 2) (byte 3))))
+    (cond (eqb (byte 0) poseByte) (wholeWhere (room poseWidth) poseWidth (edit (place (byte 1) (byte 2) (poseOf byte))))
     (cond (eqb (byte 0) solveByte) (wholeWhere (room solveWidth) solveWidth solve) (unknown (byte 0))))
 
 module _ (stream : List ℕ) (at : ℕ) where
@@ -76,8 +76,8 @@ module _ (stream : List ℕ) (at : ℕ) where
   parse-parseOf =
       ap₂
       (λ (first : ℕ) (p : Pose).
-      cond (eqb first sizeByte) (wholeWhere (roomAt sizeWidth) sizeWidth (size (byteAt 1) (byteAt 2) (byteAt 3)))
-      (cond (eqb first poseByte) (wholeWhere (roomAt poseWidth) poseWidth (place (byteAt 1) (byteAt 2) p))
+      cond (eqb first sizeByte) (wholeWhere (roomAt sizeWidth) sizeWidth (edit (size (byteAt 1) (byteAt 2) (byteAt 3))))
+      (cond (eqb first poseByte) (wholeWhere (roomAt poseWidth) poseWidth (edit (place (byteAt 1) (byteAt 2) p)))
       (cond (eqb first solveByte) (wholeWhere (roomAt solveWidth) solveWidth solve) (unknown first))))
       (ap (λ (i : ℕ). getD stream i 0) (omega arith))
       offeredPose-poseOf
@@ -140,13 +140,13 @@ module _ (byte byte′ : ℕ → ℕ) (room room′ : ℕ → Bool) (command : C
         doubleOf-own 51 (omega arith),
       )
 
-  sizeOf-own : sizeWidth ≡ width → size (byte 1) (byte 2) (byte 3) ≡ command → eqb (byte 0) sizeByte ≡ true → parseOf byte′ room′ ≡ complete command width
+  sizeOf-own : sizeWidth ≡ width → edit (size (byte 1) (byte 2) (byte 3)) ≡ command → eqb (byte 0) sizeByte ≡ true → parseOf byte′ room′ ≡ complete command width
   unfolding parseOf wholeWhere
   sizeOf-own w e f =
       rw (same 0 (omega arith), f, ap room′ w ∙ fits, same 1 (omega arith), same 2 (omega arith), same 3 (omega arith))
       (ap₂ complete e w)
 
-  placeOf-own : poseWidth ≡ width → place (byte 1) (byte 2) (poseOf byte) ≡ command → eqb (byte 0) sizeByte ≡ false → eqb (byte 0) poseByte ≡ true
+  placeOf-own : poseWidth ≡ width → edit (place (byte 1) (byte 2) (poseOf byte)) ≡ command → eqb (byte 0) sizeByte ≡ false → eqb (byte 0) poseByte ≡ true
       → parseOf byte′ room′ ≡ complete command width
   unfolding parseOf wholeWhere
   placeOf-own w e f g =
@@ -163,8 +163,8 @@ module _ (byte byte′ : ℕ → ℕ) (room room′ : ℕ → Bool) (command : C
   parseOf-own e = go (eqb (byte 0) sizeByte) refl (eqb (byte 0) poseByte) refl (eqb (byte 0) solveByte) refl e
     where
       go : (a : Bool) → eqb (byte 0) sizeByte ≡ a → (b : Bool) → eqb (byte 0) poseByte ≡ b → (c : Bool) → eqb (byte 0) solveByte ≡ c
-          → cond a (wholeWhere (room sizeWidth) sizeWidth (size (byte 1) (byte 2) (byte 3)))
-          (cond b (wholeWhere (room poseWidth) poseWidth (place (byte 1) (byte 2) (poseOf byte)))
+          → cond a (wholeWhere (room sizeWidth) sizeWidth (edit (size (byte 1) (byte 2) (byte 3))))
+          (cond b (wholeWhere (room poseWidth) poseWidth (edit (place (byte 1) (byte 2) (poseOf byte))))
           (cond c (wholeWhere (room solveWidth) solveWidth solve) (unknown (byte 0)))) ≡ complete command width
           → parseOf byte′ room′ ≡ complete command width
       go true ea b eb c ec e = let (w, own) = wholeWhere-complete _ _ _ e in sizeOf-own w own ea

@@ -18,15 +18,16 @@ use lib.Pow.{pow-pos}
 use borrow.Author.Tests.{lt-ltb, le-ltb}
 use Rattle.arithmetic.specs.Pose.{identityPose, finitePose}
 use Rattle.refusal.specs.declared.Refusal.{Refusal}
-use Rattle.chains.specs.Limits.{maxCameras}
-use Rattle.chains.specs.Masks.{inMask}
+use Rattle.limits.specs.Limits.{maxCameras}
+use Rattle.lists.specs.Masks.{inMask}
 use Rattle.inputs.specs.Inputs.{sizeRefusal}
 use Rattle.inputs.proofs.Answering.{Sizes, sizeRefusal-none, sizeRefusal-sizes}
-use Rattle.command.specs.Command.{Command, size, place, solve}
-use Rattle.session.specs.Session.{fresh, commandRefusal, sessionAfter, Left, left-fresh, left-after, allBelow, isNone, possible}
+use Rattle.command.specs.Command.{Edit, size, place, Command, edit, solve}
+use Rattle.session.specs.Session.{fresh, allBelow, isNone, possibleSizes, maskFits, possibleMasks, possible}
+use Rattle.session.specs.Commands.{editRefusal, editSession, commandRefusal, sessionAfter, Left, left-fresh, left-after}
 use Rattle.session.specs.declared.Session.{Session}
 use Rattle.streams.proofs.Accepting.{size-accepted, accepts-size, place-accepted, accepts-place}
-use Rattle.streams.proofs.MaskBits.{plus-below, inMask-mod, mod-next-set, mod-next-clear}
+use Rattle.lists.proofs.MaskBits.{plus-below, inMask-mod, mod-next-set, mod-next-clear}
 
 -- ---- what the check asks, as plain facts
 
@@ -75,9 +76,6 @@ module _ (s : Session) where
   abbrev bound : ℕ → ℕ
   bound c = cond (ltb c (s .cameras)) (2 ^ s .views) 1
 
-  abbrev fits : ℕ → Bool
-  fits c = ltb (getD (s .masks) c 0) (bound c)
-
   noSizes-fact : T noSizes ↔ NoSizes s
   noSizes-fact = (forth, back)
     where
@@ -90,15 +88,21 @@ module _ (s : Session) where
       back : NoSizes s → T noSizes
       back (v, c, r) = rw (v, c, r) tt
 
-  fits-fact : T (allBelow fits maxCameras)
+  sizes-fact : T (possibleSizes s) ↔ (NoSizes s ⊎ Sizes (s .views) (s .cameras) (s .reference))
+  sizes-fact = (
+    λ t. ⊎-elim (λ n. inl (noSizes-fact .0 n)) (λ n. inr (sizeRefusal-none _ _ _ (T-isNone _ .0 n))) (T-or noSizes someSizes .0 t),
+    λ h. T-or noSizes someSizes .1 (⊎-elim (λ n. inl (noSizes-fact .1 n)) (λ n. inr (T-isNone _ .1 (sizeRefusal-sizes _ _ _ n))) h),
+  )
+
+  masks-fact : T (possibleMasks s)
       ↔ (((c : ℕ) → c < maxCameras → c < s .cameras → getD (s .masks) c 0 < 2 ^ s .views)
       × ((c : ℕ) → c < maxCameras → s .cameras ≤ c → getD (s .masks) c 0 ≡ 0))
-  fits-fact = (forth, back)
+  masks-fact = (forth, back)
     where
-      one : (c : ℕ) → T (allBelow fits maxCameras) → c < maxCameras → getD (s .masks) c 0 < bound c
-      one c t l = ltb→lt _ _ (allBelow-each fits maxCameras .0 t c l)
+      one : (c : ℕ) → T (possibleMasks s) → c < maxCameras → getD (s .masks) c 0 < bound c
+      one c t l = ltb→lt _ _ (allBelow-each (maskFits s) maxCameras .0 t c l)
 
-      forth : T (allBelow fits maxCameras)
+      forth : T (possibleMasks s)
           → (((c : ℕ) → c < maxCameras → c < s .cameras → getD (s .masks) c 0 < 2 ^ s .views)
           × ((c : ℕ) → c < maxCameras → s .cameras ≤ c → getD (s .masks) c 0 ≡ 0))
       forth t = (
@@ -107,32 +111,28 @@ module _ (s : Session) where
       )
 
       back : ((c : ℕ) → c < maxCameras → c < s .cameras → getD (s .masks) c 0 < 2 ^ s .views)
-          × ((c : ℕ) → c < maxCameras → s .cameras ≤ c → getD (s .masks) c 0 ≡ 0) → T (allBelow fits maxCameras)
-      back (inside, outside) = allBelow-each fits maxCameras .1 (λ c l. go c l (decLt c (s .cameras)))
+          × ((c : ℕ) → c < maxCameras → s .cameras ≤ c → getD (s .masks) c 0 ≡ 0) → T (possibleMasks s)
+      back (inside, outside) = allBelow-each (maskFits s) maxCameras .1 (λ c l. go c l (decLt c (s .cameras)))
         where
-          go : (c : ℕ) → c < maxCameras → Dec (c < s .cameras) → T (fits c)
+          go : (c : ℕ) → c < maxCameras → Dec (c < s .cameras) → T (maskFits s c)
           go c l (yes k) = lt→ltb (getD (s .masks) c 0) (bound c) (rw (lt-ltb c (s .cameras) k) (inside c l k))
           go c l (no k) = lt→ltb (getD (s .masks) c 0) (bound c) (rw (le-ltb c (s .cameras) (omega arith), outside c l (omega arith)) (omega arith))
 
-  possible-parts : T (possible s) ↔ (T (noSizes || someSizes) × T (allBelow fits maxCameras))
+  possible-parts : T (possible s) ↔ (T (possibleSizes s) × T (possibleMasks s))
   unfolding possible
-  possible-parts = T-and (noSizes || someSizes) (allBelow fits maxCameras)
+  possible-parts = T-and (possibleSizes s) (possibleMasks s)
 
   pub sound-of-possible : T (possible s) → Sound s
   sound-of-possible t =
       let (sized, fit) = possible-parts .0 t in
       record {
-        sizes = ⊎-elim (λ n. inl (noSizes-fact .0 n)) (λ n. inr (sizeRefusal-none _ _ _ (T-isNone _ .0 n))) (T-or noSizes someSizes .0 sized);
-        inside = fits-fact .0 fit .0;
-        outside = fits-fact .0 fit .1;
+        sizes = sizes-fact .0 sized;
+        inside = masks-fact .0 fit .0;
+        outside = masks-fact .0 fit .1;
       }
 
   pub possible-of-sound : Sound s → T (possible s)
-  possible-of-sound h =
-      possible-parts .1 (
-        T-or noSizes someSizes .1 (⊎-elim (λ n. inl (noSizes-fact .1 n)) (λ n. inr (T-isNone _ .1 (sizeRefusal-sizes _ _ _ n))) (h .sizes)),
-        fits-fact .1 (h .inside, h .outside),
-      )
+  possible-of-sound h = possible-parts .1 (sizes-fact .1 (h .sizes), masks-fact .1 (h .inside, h .outside))
 
 -- ---- accepted commands keep it
 
@@ -161,17 +161,17 @@ module _ (s : Session) (h : Sound s) where
   pub has-sizes : 0 < s .views → Sizes (s .views) (s .cameras) (s .reference)
   has-sizes l = ⊎-elim (λ n. absurd (omega (arith, n .0))) (λ n. n) (h .sizes)
 
-  pub sound-after : (buffer : List Float) (command : Command) → commandRefusal s buffer command ≡ none → Sound (sessionAfter s command)
-  unfolding sessionAfter
-  sound-after buffer (size v c r) e =
-      let (none-yet, sizes) = size-accepted s buffer v c r e in
+  sound-edit : (change : Edit) → editRefusal s change ≡ none → Sound (editSession s change)
+  unfolding editSession
+  sound-edit (size v c r) e =
+      let (none-yet, sizes) = size-accepted s v c r e in
       record {
         sizes = inr sizes;
         inside = λ i l k. rw (no-bits none-yet i l) (pow-pos v);
         outside = λ i l k. no-bits none-yet i l;
       }
-  sound-after buffer (place v c p) e =
-      let here = place-accepted s buffer v c p e in
+  sound-edit (place v c p) e =
+      let here = place-accepted s v c p e in
       let sizes = has-sizes (omega (arith, here .view-inside)) in
       let m = getD (s .masks) c 0 in
       record {
@@ -181,6 +181,10 @@ module _ (s : Session) (h : Sound s) where
             (λ same. plus-below m v (here .not-held) (s .views) (here .view-inside) (h .inside c (omega (arith, sizes .cameras-fit, here .camera-inside)) (here .camera-inside)));
         outside = λ i l k. getD-set-other (s .masks) c i (m + 2 ^ v) 0 (omega (arith, here .camera-inside)) ∙ h .outside i l k;
       }
+
+  pub sound-after : (buffer : List Float) (command : Command) → commandRefusal s buffer command ≡ none → Sound (sessionAfter s command)
+  unfolding commandRefusal sessionAfter
+  sound-after buffer (edit change) e = sound-edit change e
   sound-after buffer solve e = h
 
 sound-of-left : {s : Session} → Left s → Sound s
@@ -199,16 +203,16 @@ module _ (views cameras reference : ℕ) (sizes : Sizes views cameras reference)
 
   -- Size leaves a record without bits.
   left-sized : Left (sized (replicate maxCameras 0))
-  unfolding sessionAfter
-  left-sized = left-after [] (size views cameras reference) left-fresh (accepts-size fresh [] views cameras reference refl sizes)
+  unfolding commandRefusal sessionAfter
+  left-sized = left-after [] (edit (size views cameras reference)) left-fresh (accepts-size fresh views cameras reference refl sizes)
 
   -- One Pose, with whatever numbers, leaves one bit more.
   left-bit : (l : List ℕ) (v c : ℕ) → v < views → c < cameras → inMask (getD l c 0) v ≡ false → Left (sized l)
       → Left (sized (set l c (getD l c 0 + 2 ^ v)))
-  unfolding sessionAfter
+  unfolding commandRefusal sessionAfter
   left-bit l v c hv hc clear h =
-      left-after [] (place v c identityPose) h
-      (accepts-place (sized l) [] v c identityPose (record { view-inside = hv; camera-inside = hc; not-held = clear; all-finite = identity-finite }))
+      left-after [] (edit (place v c identityPose)) h
+      (accepts-place (sized l) v c identityPose (record { view-inside = hv; camera-inside = hc; not-held = clear; all-finite = identity-finite }))
 
   module _ (l : List ℕ) (c : ℕ) (here : c < length l) (inside : c < cameras) (clear : getD l c 0 ≡ 0) (h : Left (sized l)) (m : ℕ) where
     -- The lowest n bits of the mask.
@@ -289,12 +293,17 @@ left-of-sound s long sound = ⊎-elim none-yet some-sizes (sound .sizes)
     some-sizes : Sizes (s .views) (s .cameras) (s .reference) → Left s
     some-sizes n = left-of-sizes (s .views) (s .cameras) (s .reference) n (s .masks) sound long
 
+-- No edit changes how many masks there are.
+pub length-masks-edit : (s : Session) (change : Edit) → length (editSession s change .masks) ≡ length (s .masks)
+unfolding editSession
+length-masks-edit s (size v c r) = refl
+length-masks-edit s (place v c p) = length-set (s .masks) c (getD (s .masks) c 0 + 2 ^ v)
+
 -- Accepted commands leave a mask for each of 16 cameras.
 pub left-sixteen : {s : Session} → Left s → length (s .masks) ≡ 16
 unfolding sessionAfter
 left-sixteen left-fresh = refl
-left-sixteen (left-after buffer (size v c r) l e) = left-sixteen l
-left-sixteen (left-after {s = s} buffer (place v c p) l e) = length-set (s .masks) c (getD (s .masks) c 0 + 2 ^ v) ∙ left-sixteen l
+left-sixteen (left-after {s = s} buffer (edit change) l e) = length-masks-edit s change ∙ left-sixteen l
 left-sixteen (left-after buffer solve l e) = left-sixteen l
 
 -- The check for 5 passes exactly those records that accepted commands could leave.

@@ -16,14 +16,13 @@ use borrow.Author.Tests.{not-false}
 use Rattle.arithmetic.specs.Pose.{poseAt, finitePose}
 use Rattle.arithmetic.specs.declared.pose.Pose.{Pose}
 use Rattle.refusal.specs.declared.Refusal.the-variants.{NotFinite}
-use Rattle.chains.specs.Masks.{inMask}
+use Rattle.lists.specs.Masks.{inMask}
 use Rattle.extrinsics.specs.Outcome.{isNotFinite, lowestNotFinite, notFinite}
-use Rattle.extrinsics.specs.Direct.{markedCell}
 use Rattle.extrinsics.specs.Rig.{maskedCell, rigCell, rigGrid}
 use Rattle.extrinsics.specs.declared.grid.Cell.the-variants.{Empty, Held}
 use Rattle.inputs.proofs.Answering.{refuseAt-nothing, Sizes}
-use Rattle.inputs.proofs.Lowest.{lowest-none-fails}
-use Rattle.chains.proofs.Tabulated.{length-tabulate, getD-tabulate, getD-tabulate-past}
+use Rattle.lists.proofs.Lowest.{lowest-none-fails}
+use Rattle.lists.proofs.Tabulated.{length-tabulate, getD-tabulate, getD-tabulate-past}
 use Rattle.extrinsics.proofs.ViewCells.{row-inside, row-quotient, row-remainder, cellOf-rigCell}
 use Rattle.demands.specs.Rust.{numViews, numCameras}
 use Rattle.demands.specs.Encoding.{markFor, poseOf, Encodes, WithinLimits, RoomEnough}

@@ -9,9 +9,10 @@ use Rattle.extrinsics.specs.Grid.{Grid}
 use Rattle.extrinsics.specs.Outcome.{notFinite}
 use Rattle.demands.specs.Rust.{estimateExtrinsicsFromCamTargetPoses}
 use Rattle.demands.specs.Encoding.{CallAgrees}
-use Rattle.demands.specs.Demand3.{PassesBefore8, Demand3}
+use Rattle.demands.specs.Demand3.{WellFormed, Demand3}
 use Rattle.demands.proofs.CallAgrees.{call-agrees-with-rust}
 use Rattle.demands.proofs.Demand3.{demand-3}
+use Rattle.demands.proofs.WellFormed.{PassesBefore8, passes-before-8}
 use Rattle.command.specs.Command.{solve}
 use Rattle.session.specs.Session.{sessionGrid}
 use Rattle.session.specs.Call.{State}
@@ -32,12 +33,18 @@ module _ (t : State) (u : Usable t) (some-view : 0 < t .session .views) where
         passes-7 = sym (ap (λ (g : Grid). notFinite g) (grid-is-direct (t .session) (t .buffer) some-view)) ∙ finite;
       }
 
+  pub solve-well-formed : notFinite (sessionGrid (t .session) (t .buffer)) ≡ none
+      → WellFormed (countsOf (t .session)) (marksOf (t .session)) (floatsOf (t .session) (t .buffer)) (t .session .reference) (length (t .first)) (length (t .second))
+  solve-well-formed finite =
+      passes-before-8 (countsOf (t .session)) (marksOf (t .session)) (floatsOf (t .session) (t .buffer)) (t .session .reference) (length (t .first))
+      (length (t .second)) .0 (solve-passes-before-8 finite)
+
   pub solve-demand-3 : notFinite (sessionGrid (t .session) (t .buffer)) ≡ none → (d : AsDirect t (answerTo t solve))
       → Demand3 (countsOf (t .session)) (marksOf (t .session)) (floatsOf (t .session) (t .buffer)) (t .session .reference) (d .outcome)
       (answerTo t solve .after .first) (answerTo t solve .after .second)
   solve-demand-3 finite d =
       demand-3 (countsOf (t .session)) (marksOf (t .session)) (floatsOf (t .session) (t .buffer)) (t .session .reference) (t .first) (t .second)
-      (d .outcome) (answerTo t solve .after .first) (answerTo t solve .after .second) (solve-passes-before-8 finite) (d .direct)
+      (d .outcome) (answerTo t solve .after .first) (answerTo t solve .after .second) (solve-well-formed finite) (d .direct)
 
   -- Demand 2, "every grid of finite poses within document 01's limits": Solve answers on the grid that masks and buffer hold as the Rust
   -- function does.
@@ -50,5 +57,6 @@ module _ (t : State) (u : Usable t) (some-view : 0 < t .session .views) where
       (session-encodes (t .session) (t .buffer) some-view)
       (session-within-limits (t .session) (t .buffer) some-view (u .record-possible) finite)
       (t .first) (t .second)
-      (session-room (t .session) (t .buffer) some-view (u .record-possible) (length (t .first)) (length (t .second)) (u .first-fits) (u .second-fits))
+      (λ inside equal.
+      session-room (t .session) (t .buffer) some-view (u .record-possible) (length (t .first)) (length (t .second)) (u .first-fits) (u .second-fits))
       (d .outcome) (answerTo t solve .after .first) (answerTo t solve .after .second) (d .direct)

@@ -5,7 +5,7 @@ use Prim.Native.Nat.{ℕ, zero, suc, _+_, _*_, _/_, _%_, _≤_, _<_}
 use native.Mathlib.Decide.{decLt}
 use native.Mathlib.Omega.{arith}
 use mathlib.Core.Path.{_≡_, refl, sym, ap, ap₂, _∙_}
-use mathlib.Core.Bool.{Bool, true, false, not, cond, false≢true}
+use mathlib.Core.Bool.{Bool, true, false, not, cond}
 use mathlib.Core.Option.{Option, none, some}
 use mathlib.Core.List.{List, [], _∷_, _++_}
 use lib.ListN.{length, getD, length-replicate, getD-replicate, List·getD-append}
@@ -15,11 +15,11 @@ use lib.Ieee.{Float, nan}
 use borrow.Author.Tests.{eq-eqb, ne-eqb, le-ltb}
 use Rattle.arithmetic.specs.Pose.{flat, poseAt}
 use Rattle.arithmetic.specs.declared.pose.Pose.{Pose}
-use Rattle.chains.specs.Masks.{inMask}
-use Rattle.chains.specs.Layers.{tabulate}
+use Rattle.limits.specs.Limits.{firstNeeds, secondNeeds}
+use Rattle.lists.specs.Masks.{inMask}
+use Rattle.lists.specs.Lists.{tabulate, gather}
 use Rattle.extrinsics.specs.Grid.{Grid}
-use Rattle.extrinsics.specs.Estimate.{gather, transforms, chains}
-use Rattle.inputs.specs.Finding.{lowest}
+use Rattle.extrinsics.specs.Estimate.{transforms, chains}
 use Rattle.extrinsics.specs.Outcome.{gridRefusal, outcomeOf, answered}
 use Rattle.extrinsics.specs.Rig.{maskedCell, rigCell, rigGrid}
 use Rattle.refusal.specs.Table.{refuseIf, firstOf}
@@ -30,11 +30,12 @@ use Rattle.extrinsics.specs.Direct.{markedCell, directGrid, directRefusal}
 use Rattle.extrinsics.specs.declared.grid.Cell.{Cell}
 use Rattle.extrinsics.specs.declared.grid.Cell.the-variants.{Empty, Held}
 use Rattle.inputs.proofs.Answering.{refuseAt-none, firstOf-none, Sizes, sizeRefusal-sizes}
-use Rattle.inputs.proofs.Lowest.{lowest-nothing}
+use Rattle.lists.proofs.Lowest.{lowest-nothing}
 use Rattle.extrinsics.proofs.Filling.{length-gather}
-use Rattle.chains.proofs.Tabulated.{length-tabulate, getD-tabulate, tabulate-agree}
+use Rattle.lists.proofs.Tabulated.{length-tabulate, getD-tabulate, tabulate-agree}
 use Rattle.command.specs.Command.{Command, solve}
-use Rattle.session.specs.Session.{cellStart, hasSize, rigOf, sessionGrid, commandRefusal, sessionAfter, bufferAfter, possible}
+use Rattle.session.specs.Session.{cellStart, hasSize, rigOf, sessionGrid, possible}
+use Rattle.session.specs.Commands.{commandRefusal, sessionAfter, bufferAfter}
 use Rattle.session.specs.Call.{firstLength, secondLength, State, replyTo, firstAfter, secondAfter, stateAfter}
 use Rattle.streams.specs.Stream.{answer, answerTo, stateAfterAll, Usable}
 use Rattle.session.specs.declared.Reply.the-variants.{Refused}
@@ -69,7 +70,7 @@ held-or-empty false p = refl
 module _ (s : Session) where
   pub length-marksOf : length (marksOf s) ≡ s .views * s .cameras
   unfolding marksOf
-  length-marksOf = length-tabulate (s .views * s .cameras) (λ i. cond (inMask (getD (s .masks) (i % s .cameras) 0) (i / s .cameras)) 1 0)
+  length-marksOf = length-tabulate (s .views * s .cameras) _
 
   pub mark-at : (i : ℕ) → i < s .views * s .cameras → getD (marksOf s) i 0 ≡ cond (inMask (getD (s .masks) (i % s .cameras) 0) (i / s .cameras)) 1 0
   unfolding marksOf
@@ -152,8 +153,8 @@ module _ (s : Session) (buffer : List Float) where
             first-countsOf,
             eq-eqb (length (marksOf s)) cells (length-marksOf s),
             eq-eqb (length (floatsOf s buffer)) (7 * cells) length-floatsOf,
-            le-ltb firstRoom (7 * (s .cameras + s .views)) (omega (arith, sizes .views-fit, sizes .cameras-fit)),
-            le-ltb secondRoom (2 * s .cameras) (omega (arith, sizes .cameras-fit)),
+            le-ltb firstRoom (firstNeeds (s .cameras) (s .views)) (omega (arith, sizes .views-fit, sizes .cameras-fit)),
+            le-ltb secondRoom (secondNeeds (s .cameras)) (omega (arith, sizes .cameras-fit)),
           )
 
       marks-pass : markRefusal (cellCount (countsOf s)) (marksOf s) ≡ none

@@ -1,6 +1,6 @@
 -- A Solve anywhere in a stream (`solve-in-stream`): after the answers to the commands before it stands the answer of the direct call that
 -- the session then stands for; where every held number is finite, it is what demands 2 and 3 ask. Assumes nothing.
-use Prim.Native.Nat.{ℕ, suc, _≤_, _<_}
+use Prim.Native.Nat.{ℕ, _≤_, _<_}
 use mathlib.Core.Path.{_≡_, refl, sym, ap, subst, _∙_}
 use mathlib.Core.Option.{none}
 use mathlib.Core.List.{List, [], _∷_, _++_, append-assoc}
@@ -16,15 +16,10 @@ use Rattle.streams.specs.SolveDemands.{AsDemanded}
 use Rattle.streams.proofs.SolveDirect.{solve-after}
 use Rattle.streams.proofs.SolveDemands.{solve-demand-2, solve-demand-3}
 use Rattle.streams.proofs.Streams.{calls-give-answers}
-use Rattle.streams.proofs.Striking.{answers-append}
+use Rattle.streams.proofs.Striking.{answers-append, length-answers}
 use Rattle.streams.proofs.Usable.{usable-after-all}
 
 -- ---- answers to commands
-
-length-answers : (commands : List Command) (t : State) → length (answers t commands) ≡ length commands
-unfolding answers
-length-answers [] t = refl
-length-answers (command ∷ later) t = ap suc (length-answers later (answerTo t command .after))
 
 answers-command : (t : State) (command : Command) (later : List Command)
     → answers t (command ∷ later) ≡ answerTo t command ∷ answers (answerTo t command .after) later

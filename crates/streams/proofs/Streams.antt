@@ -15,18 +15,20 @@ use borrow.Author.Tests.{ltb-false, lt-ltb, le-ltb, eq-eqb, ne-eqb}
 use Rattle.refusal.specs.Table.{refuseIf, refuseAt, firstOf}
 use Rattle.refusal.specs.declared.Refusal.{Refusal}
 use Rattle.refusal.specs.declared.Refusal.the-variants.{InsufficientData, TooMany, InvalidReference, WrongLength, NotFinite, Unreached, EmptyView, Truncated, TooLong}
-use Rattle.chains.specs.Limits.{maxViews, maxCameras}
+use Rattle.limits.specs.Limits.{maxViews, maxCameras}
 use Rattle.inputs.specs.Inputs.{sizeRefusal}
 use Rattle.extrinsics.specs.Grid.{Grid}
 use Rattle.extrinsics.specs.Outcome.{lowestNotFinite, notFinite, unreachedSet, unreached, lowestEmptyView, emptyView, gridRefusal}
 use Rattle.inputs.proofs.Answering.{refuseIf-none, firstOf-none-all}
-use Rattle.command.specs.Command.{Command, size, place, solve, Parsed, complete, broken, unknown, parse}
-use Rattle.session.specs.Session.{sessionGrid, commandRefusal}
+use Rattle.command.specs.Command.{Edit, size, place, Command, edit, solve, Parsed, complete, broken, unknown, parse}
+use Rattle.command.specs.Framing.{Ending, clean, unknownByte, brokenAt}
+use Rattle.session.specs.Session.{sessionGrid}
+use Rattle.session.specs.Commands.{editRefusal, commandRefusal}
 use Rattle.session.specs.Call.{maxStream, State, Result, result, callRefusal, stopped, replyTo, obeyed, read, call}
-use Rattle.streams.specs.Stream.{Ending, clean, unknownByte, brokenAt, Contents, contents, contentsFrom, contentsOf, Answer, answer, answerTo, answers, stateAfterAll, lastState, unusable, streamRefusal, endingReply, answersOf, meaning, endsStream, callsFrom, calls, Usable}
+use Rattle.streams.specs.Stream.{Contents, contents, contentsFrom, contentsOf, Answer, answer, answerTo, answers, stateAfterAll, lastState, unusable, streamRefusal, endingReply, answersOf, meaning, endsStream, callsFrom, calls, Usable}
 use Rattle.session.specs.declared.Session.{Session}
 use Rattle.session.specs.declared.Reply.the-variants.{End, Refused}
-use Rattle.session.proofs.Advancing.{parse-complete}
+use Rattle.command.proofs.Decoding.{parse-complete}
 use Rattle.streams.proofs.Accepting.{firstOf-all-none, refuseIf-false, size-checks, placeChecks, place-checks, solve-checks}
 use Rattle.streams.proofs.Contents.{contentsFrom-none, contentsFrom-end, contentsFrom-complete, contentsFrom-broken, contentsFrom-unknown}
 use Rattle.streams.proofs.Usable.{usable-of-check, check-of-usable, usable-answer, answerTo-accepted, answerTo-refused}
@@ -85,21 +87,28 @@ goes-on-grid g =
       (goes-on-refuseIf (not (eqb (unreachedSet g) 0)) (Unreached (unreachedSet g)) refl, (goes-on-refuseAt (lowestEmptyView g) EmptyView (λ n. refl), tt)),
     )
 
-goes-on-command : (s : Session) (buffer : List Float) (command : Command) → GoesOn (commandRefusal s buffer command)
+goes-on-edit : (s : Session) (change : Edit) → GoesOn (editRefusal s change)
 unfolding endsStream
-goes-on-command s buffer (size v c r) =
-    subst GoesOn (sym (size-checks s buffer v c r)) (goes-on-firstOf _ (goes-on-refuseIf _ _ refl, (goes-on-size v c r, tt)))
-goes-on-command s buffer (place v c p) =
-    subst GoesOn (sym (place-checks s buffer v c p))
-    (goes-on-firstOf (placeChecks s buffer v c p)
+goes-on-edit s (size v c r) =
+    subst GoesOn (sym (size-checks s v c r)) (goes-on-firstOf _ (goes-on-refuseIf _ _ refl, (goes-on-size v c r, tt)))
+goes-on-edit s (place v c p) =
+    subst GoesOn (sym (place-checks s v c p))
+    (goes-on-firstOf (placeChecks s v c p)
     (goes-on-refuseIf _ _ refl, (goes-on-refuseIf _ _ refl, (goes-on-refuseIf _ _ refl, (goes-on-refuseIf _ _ refl, tt)))))
-goes-on-command s buffer solve =
+
+goes-on-solve : (s : Session) (buffer : List Float) → GoesOn (commandRefusal s buffer solve)
+unfolding endsStream
+goes-on-solve s buffer =
     subst GoesOn (sym (solve-checks s buffer)) (goes-on-firstOf _ (goes-on-refuseIf _ _ refl, (goes-on-grid (sessionGrid s buffer), tt)))
+
+goes-on-command : (s : Session) (buffer : List Float) (command : Command) → GoesOn (commandRefusal s buffer command)
+unfolding commandRefusal
+goes-on-command s buffer (edit change) = goes-on-edit s change
+goes-on-command s buffer solve = goes-on-solve s buffer
 
 obeyed-goes-on : (command : Command) → endsStream (replyTo command) ≡ false
 unfolding endsStream replyTo
-obeyed-goes-on (size v c r) = refl
-obeyed-goes-on (place v c p) = refl
+obeyed-goes-on (edit change) = refl
 obeyed-goes-on solve = refl
 
 -- Neither a command's refusal nor its acceptance ends the stream.
@@ -130,12 +139,12 @@ module _ (t : State) (stream : List ℕ) (at : ℕ) where
   unfolding streamRefusal
   streamRefusal-checks = refl
 
-  callRefusal-passes : streamRefusal t stream ≡ none → at ≤ length stream → callRefusal t stream at ≡ none
+  pub callRefusal-passes : streamRefusal t stream ≡ none → at ≤ length stream → callRefusal t stream at ≡ none
   callRefusal-passes e h =
       let (long, (wrong, _)) = firstOf-none-all _ (sym streamRefusal-checks ∙ e) in
       callRefusal-checks ∙ firstOf-all-none callChecks (long, (wrong, (refuseIf-false _ _ (le-ltb (length stream) at h), tt)))
 
-  callRefusal-refuses : (r : Refusal) → streamRefusal t stream ≡ some r → callRefusal t stream at ≡ some r
+  pub callRefusal-refuses : (r : Refusal) → streamRefusal t stream ≡ some r → callRefusal t stream at ≡ some r
   unfolding firstOf
   callRefusal-refuses r e =
       callRefusal-checks

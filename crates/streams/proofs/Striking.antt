@@ -8,14 +8,15 @@ use mathlib.Core.Path.{_≡_, refl, sym, ap, ap₂, _∙_}
 use mathlib.Core.Option.{some}
 use mathlib.Core.List.{List, [], _∷_, _++_, append-assoc}
 use lib.ListN.{length, take, drop, getD, length-append, length-drop, List·getD-append}
-use lib.Seq.{getD-take, length-take-le, drop-at}
+use lib.Seq.{getD-take, length-take-le, take-at, drop-at}
 use Rattle.refusal.specs.declared.Refusal.{Refusal}
 use Rattle.command.specs.Command.{Command, Parsed, complete, broken, unknown, parse}
-use Rattle.session.specs.Session.{commandRefusal}
+use Rattle.command.specs.Framing.{brokenAt}
+use Rattle.session.specs.Commands.{commandRefusal}
 use Rattle.session.specs.Call.{State, maxStream}
-use Rattle.streams.specs.Stream.{brokenAt, Contents, contents, contentsFrom, restOf, contentsOf, Reads, nothing, one-more, struck, earlier, Answer, answer, answerTo, answers, stateAfterAll, answersOf, endingReply, meaning, Usable}
+use Rattle.streams.specs.Stream.{Contents, contents, contentsFrom, restOf, contentsOf, Reads, nothing, one-more, struck, earlier, Answer, answer, answerTo, answers, stateAfterAll, answersOf, endingReply, meaning, Usable}
 use Rattle.session.specs.declared.Reply.the-variants.{Refused}
-use Rattle.session.proofs.Advancing.{parse-complete}
+use Rattle.command.proofs.Decoding.{parse-complete}
 use Rattle.streams.proofs.Contents.{contentsFrom-none, contentsFrom-end, contentsFrom-complete, contentsFrom-broken, contentsFrom-unknown, contentsFrom-enough, restOf-command, restOf-reads, reads-le}
 use Rattle.streams.proofs.Parsing.{parse-drop, parse-own}
 use Rattle.streams.proofs.Streams.{passes-of-usable, answersOf-command, meaning-passes}
@@ -33,6 +34,11 @@ unfolding stateAfterAll
 stateAfterAll-append t [] after = refl
 stateAfterAll-append t (command ∷ before) after = stateAfterAll-append (answerTo t command .after) before after
 
+pub length-answers : (commands : List Command) (t : State) → length (answers t commands) ≡ length commands
+unfolding answers
+length-answers [] t = refl
+length-answers (command ∷ later) t = ap suc (length-answers later (answerTo t command .after))
+
 -- The command is refused with r after the commands before it.
 module _ (t : State) (before after : List Command) (command : Command) (r : Refusal)
     (refused : commandRefusal (stateAfterAll t before .session) (stateAfterAll t before .buffer) command ≡ some r) where
@@ -44,9 +50,17 @@ module _ (t : State) (before after : List Command) (command : Command) (r : Refu
       answers-append t before (command ∷ after)
       ∙ ap (λ (a : Answer). answers t before ++ (a ∷ answers (a .after) after)) (answerTo-refused (stateAfterAll t before) command r refused)
 
-  -- Without it, the same answers but its own.
-  pub answers-without-refused : answers t (before ++ after) ≡ answers t before ++ answers (stateAfterAll t before) after
-  answers-without-refused = answers-append t before after
+  -- Without it, the same answers but its own: those before its place, and those after.
+  pub answers-without-refused : answers t (before ++ after)
+      ≡ take (length before) (answers t (before ++ (command ∷ after))) ++ drop (suc (length before)) (answers t (before ++ (command ∷ after)))
+  answers-without-refused =
+      let own = answer (Refused r) (stateAfterAll t before) in
+      let later = answers (stateAfterAll t before) after in
+      answers-append t before after
+      ∙ ap₂ _++_ (sym (take-at (answers t before) (own ∷ later) (length before) (length-answers before t)))
+      (sym (drop-at (answers t before ++ (own ∷ [])) later (suc (length before)) (simp length-append (omega (arith, length-answers before t))))
+      ∙ ap (drop (suc (length before))) (append-assoc (answers t before) (own ∷ []) later))
+      ∙ ap (λ (l : List Answer). take (length before) l ++ drop (suc (length before)) l) (sym answers-with-refused)
 
   -- And in the end the same stands in the record, the buffer and both answers.
   pub state-without-refused : stateAfterAll t (before ++ (command ∷ after)) ≡ stateAfterAll t (before ++ after)

@@ -13,15 +13,16 @@ use lib.Ieee.{Float}
 use borrow.Author.Tests.{eqb-true, ltb-false, not-false, eq-eqb, le-ltb}
 use Rattle.arithmetic.specs.Pose.{flat}
 use Rattle.refusal.specs.declared.Refusal.{Refusal}
-use Rattle.chains.specs.Limits.{maxViews, maxCameras}
+use Rattle.limits.specs.Limits.{maxViews, maxCameras, secondNeeds}
 use Rattle.extrinsics.specs.Grid.{Grid}
 use Rattle.extrinsics.specs.Estimate.{transforms, chains, rigSe3Cam, rigSe3Target}
 use Rattle.extrinsics.specs.Outcome.{answered}
 use Rattle.extrinsics.specs.Rig.{rigGrid}
 use Rattle.inputs.proofs.Answering.{or-false}
 use Rattle.extrinsics.proofs.Filling.{length-gather}
-use Rattle.command.specs.Command.{Command, size, place, solve}
-use Rattle.session.specs.Session.{bufferLength, cellStart, sessionGrid, commandRefusal, bufferAfter, possible}
+use Rattle.command.specs.Command.{Edit, size, place, Command, edit, solve}
+use Rattle.session.specs.Session.{bufferLength, cellStart, sessionGrid, possible}
+use Rattle.session.specs.Commands.{editRefusal, editBuffer, commandRefusal, bufferAfter}
 use Rattle.session.specs.Call.{firstLength, secondLength, State, replyTo, firstAfter, secondAfter, stateAfter}
 use Rattle.streams.specs.Stream.{answer, answerTo, stateAfterAll, unusable, Usable}
 use Rattle.session.specs.declared.Reply.the-variants.{Refused}
@@ -76,7 +77,7 @@ unfolding transforms
 length-transforms g =
     simp (length-append, length-gather (λ c. flat (rigSe3Cam g c)) 7 (λ c. refl), length-gather (λ v. flat (rigSe3Target g v)) 7 (λ v. refl))
 
-pub length-chains : (g : Grid) → length (chains g) ≡ 2 * g .cameras
+pub length-chains : (g : Grid) → length (chains g) ≡ secondNeeds (g .cameras)
 unfolding chains
 length-chains g = length-gather _ 2 (λ c. refl) (g .cameras)
 
@@ -96,21 +97,24 @@ module _ (t : State) (u : Usable t) where
   sound : Sound (t .session)
   sound = sound-of-possible (t .session) (u .record-possible)
 
-  pub buffer-kept : (command : Command) → commandRefusal (t .session) (t .buffer) command ≡ none
-      → length (bufferAfter (t .buffer) command) ≡ length (t .buffer)
-  unfolding bufferAfter
-  buffer-kept (size v c r) e = refl
-  buffer-kept (place v c p) e =
-      let here = place-accepted (t .session) (t .buffer) v c p e in
+  buffer-kept-edit : (change : Edit) → editRefusal (t .session) change ≡ none → length (editBuffer (t .buffer) change) ≡ length (t .buffer)
+  unfolding editBuffer
+  buffer-kept-edit (size v c r) e = refl
+  buffer-kept-edit (place v c p) e =
+      let here = place-accepted (t .session) v c p e in
       let sizes = has-sizes (t .session) sound (omega (arith, here .view-inside)) in
       length-middle (t .buffer) (flat p) (cellStart v c) 7 refl
       (omega (arith, u .buffer-fits, here .view-inside, here .camera-inside, sizes .views-fit, sizes .cameras-fit))
+
+  pub buffer-kept : (command : Command) → commandRefusal (t .session) (t .buffer) command ≡ none
+      → length (bufferAfter (t .buffer) command) ≡ length (t .buffer)
+  unfolding commandRefusal bufferAfter
+  buffer-kept (edit change) e = buffer-kept-edit change e
   buffer-kept solve e = refl
 
   pub first-kept : (command : Command) → commandRefusal (t .session) (t .buffer) command ≡ none → length (firstAfter t command) ≡ length (t .first)
   unfolding firstAfter rigGrid
-  first-kept (size v c r) e = refl
-  first-kept (place v c p) e = refl
+  first-kept (edit change) e = refl
   first-kept solve e =
       let sizes = has-sizes (t .session) sound (solve-accepted (t .session) (t .buffer) e .0) in
       length-answered (transforms (sessionGrid (t .session) (t .buffer))) (t .first)
@@ -118,8 +122,7 @@ module _ (t : State) (u : Usable t) where
 
   pub second-kept : (command : Command) → commandRefusal (t .session) (t .buffer) command ≡ none → length (secondAfter t command) ≡ length (t .second)
   unfolding secondAfter rigGrid
-  second-kept (size v c r) e = refl
-  second-kept (place v c p) e = refl
+  second-kept (edit change) e = refl
   second-kept solve e =
       let sizes = has-sizes (t .session) sound (solve-accepted (t .session) (t .buffer) e .0) in
       length-answered (chains (sessionGrid (t .session) (t .buffer))) (t .second)

@@ -1,19 +1,17 @@
 -- The direct call that a session stands for, by document 01: "Solve answers as the direct call would on the grid that masks and buffer
 -- hold". Its counts, marks and floats, and its outcome as a reply. Rests on the direct call of `extrinsics` and the record of `Session`.
-use Prim.Native.Nat.{ℕ, _*_, _/_, _%_}
+use Prim.Native.Nat.{ℕ, _+_, _*_, _/_, _%_}
 use mathlib.Core.Path.{_≡_}
 use mathlib.Core.Bool.{cond}
 use mathlib.Core.List.{List}
 use lib.ListN.{getD, replicate}
 use lib.Ieee.{Float}
 use Rattle.arithmetic.specs.Pose.{flat, poseAt}
-use Rattle.chains.specs.Masks.{inMask}
-use Rattle.chains.specs.Layers.{tabulate}
-use Rattle.extrinsics.specs.Estimate.{gather}
+use Rattle.lists.specs.Masks.{inMask}
+use Rattle.lists.specs.Lists.{tabulate, gather}
 use Rattle.extrinsics.specs.Direct.{Direct}
 use Rattle.extrinsics.specs.declared.Outcome.{Outcome}
 use Rattle.extrinsics.specs.declared.Outcome.the-variants.{Refused as NotSolved, Solved as WellSolved}
-use Rattle.session.specs.Session.{cellStart}
 use Rattle.session.specs.Call.{State}
 use Rattle.streams.specs.Stream.{Answer}
 use Rattle.session.specs.declared.Session.{Session}
@@ -30,7 +28,7 @@ marksOf s = tabulate (s .views * s .cameras) (λ i. cond (inMask (getD (s .masks
 
 -- "seven floats per cell": those of the buffer "from 7 × (view × 16 + camera)".
 unfoldable pub floatsOf : Session → List Float → List Float
-floatsOf s buffer = gather (s .views * s .cameras) (λ i. flat (poseAt buffer (cellStart (i / s .cameras) (i % s .cameras))))
+floatsOf s buffer = gather (s .views * s .cameras) (λ i. flat (poseAt buffer (7 * (i / s .cameras * 16 + i % s .cameras))))
 
 -- What the session replies where the direct call comes to that outcome.
 unfoldable pub replyOf : Outcome → Reply

@@ -1,7 +1,8 @@
--- What a whole stream answers, which poses a session then holds, the direct call and the Rust function's grid that Solve stands for, and
--- what the demands ask of its answer. Definitions only.
+-- What a whole stream answers, which poses a session then holds, the direct call and the Rust function's grid that Solve stands for, what
+-- the demands ask of its answer, and what demand 1 asks of one call. Definitions only.
 pub mod Stream
 pub mod Held
 pub mod DirectInputs
 pub mod RustGrids
 pub mod SolveDemands
+pub mod CallDemand1

@@ -1,6 +1,6 @@
 -- The grid that the Rust function would be handed for a session: what "masks and buffer hold", view by view and camera by camera.
 -- Rests on the record of `Session`.
-use Prim.Native.Nat.{ℕ}
+use Prim.Native.Nat.{ℕ, _+_, _*_}
 use mathlib.Core.Bool.{cond}
 use mathlib.Core.Option.{Option, none, some}
 use mathlib.Core.List.{List}
@@ -8,14 +8,13 @@ use lib.ListN.{getD}
 use lib.Ieee.{Float}
 use Rattle.arithmetic.specs.Pose.{poseAt}
 use Rattle.arithmetic.specs.declared.pose.Pose.{Pose}
-use Rattle.chains.specs.Masks.{inMask}
-use Rattle.chains.specs.Layers.{tabulate}
-use Rattle.session.specs.Session.{cellStart}
+use Rattle.lists.specs.Masks.{inMask}
+use Rattle.lists.specs.Lists.{tabulate}
 use Rattle.session.specs.declared.Session.{Session}
 
 -- "bit v is set when view v holds a pose of that camera", and its seven floats stand "from 7 × (view × 16 + camera)".
 unfoldable pub rustCellOf : Session → List Float → ℕ → ℕ → Option Pose
-rustCellOf s buffer v c = cond (inMask (getD (s .masks) c 0) v) (some (poseAt buffer (cellStart v c))) none
+rustCellOf s buffer v c = cond (inMask (getD (s .masks) c 0) v) (some (poseAt buffer (7 * (v * 16 + c)))) none
 
 unfoldable pub rustViewOf : Session → List Float → ℕ → List (Option Pose)
 rustViewOf s buffer v = tabulate (s .cameras) (rustCellOf s buffer v)

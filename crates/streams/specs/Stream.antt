@@ -1,6 +1,6 @@
 -- What a whole stream answers, by document 01, "A stream arrives", told without calls: which commands it holds and how it ends, what
 -- commands answer one after the other, and both together. Then the calls one after the other, which are proved to give the same.
--- Rests on the commands of `Command`, what they do in `Session`, and one call in `Call`.
+-- Rests on the commands of `Command` and how a stream of them ends in `Framing`, what they do in `Commands`, and one call in `Call`.
 use Prim.Native.Nat.{ℕ, zero, suc, _+_, _-_, _≤_, _<_}
 use mathlib.Core.Path.{_≡_}
 use mathlib.Core.Bool.{Bool, true, false, not, _||_}
@@ -11,19 +11,15 @@ use lib.Dec.{T, eqb, ltb}
 use Rattle.refusal.specs.Table.{numberOf, refuseIf, firstOf}
 use Rattle.refusal.specs.declared.Refusal.{Refusal}
 use Rattle.refusal.specs.declared.Refusal.the-variants.{WrongLength, UnknownCommand, Truncated, TooLong}
+use Rattle.command.specs.Framing.{Ending, clean, unknownByte, brokenAt}
 use Rattle.command.specs.Command.{Command, complete, broken, unknown, parse}
-use Rattle.session.specs.Session.{bufferLength, commandRefusal, possible}
+use Rattle.session.specs.Session.{bufferLength, possible}
+use Rattle.session.specs.Commands.{commandRefusal}
 use Rattle.session.specs.Call.{maxStream, firstLength, secondLength, State, replyTo, stateAfter, call}
 use Rattle.session.specs.declared.Reply.{Reply}
 use Rattle.session.specs.declared.Reply.the-variants.{End, Accepted, Solved, Refused}
 
 -- ---- the commands that a stream holds
-
--- A stream ends after its last command, at a byte that begins none, or within the command that begins at an offset.
-pub data Ending : Type 0 where
-  clean : Ending
-  unknownByte : ℕ → Ending
-  brokenAt : ℕ → Ending
 
 pub record Contents : Type 0 where
   pub commands : List Command

@@ -4,12 +4,9 @@ use Rattle.average.specs.Average.{plusRotation}
 use Rattle.average.proofs.add_rotation.Statement.{statement}
 use Rattle.average.proofs.add_rotation.Tie as tie
 
-hemisphere-requires : tie.Need-hemisphere-requires
-hemisphere-requires c κs = search needs
-
 returns : tie.Need-returns
 unfolding plusRotation
 returns c = simp (c .before .before .before .before .before .before .before .before .hemisphere .ensures)
 
 pub add-rotation-spec : {M : Type 1} → statement M
-add-rotation-spec = tie.close (tie.spec hemisphere-requires returns)
+add-rotation-spec = tie.close (tie.spec (λ c κs. search needs) returns)

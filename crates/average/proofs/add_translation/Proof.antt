@@ -4,12 +4,9 @@ use Rattle.average.specs.Average.{plusTranslation}
 use Rattle.average.proofs.add_translation.Statement.{statement}
 use Rattle.average.proofs.add_translation.Tie as tie
 
-add-requires : tie.Need-add-requires
-add-requires c κs = search needs
-
 returns : tie.Need-returns
 unfolding plusTranslation
 returns c = c .add .ensures
 
 pub add-translation-spec : {M : Type 1} → statement M
-add-translation-spec = tie.close (tie.spec add-requires returns)
+add-translation-spec = tie.close (tie.spec (λ c κs. search needs) returns)

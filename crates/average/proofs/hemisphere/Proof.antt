@@ -4,9 +4,6 @@ use borrow.Author.Needs.{needs}
 use Rattle.average.proofs.hemisphere.Statement.{statement}
 use Rattle.average.proofs.hemisphere.Tie as tie
 
-dot-requires : tie.Need-dot-requires
-dot-requires c κs = search needs
-
 returns : tie.Need-returns
 returns c = simp (sym (c .before .dot .ensures), c .if1 .taken)
 
@@ -14,4 +11,4 @@ returns-2 : tie.Need-returns-2
 returns-2 c = simp (sym (c .before .dot .ensures), c .if1 .left)
 
 pub hemisphere-spec : {M : Type 1} → statement M
-hemisphere-spec = tie.close (tie.spec dot-requires returns returns-2)
+hemisphere-spec = tie.close (tie.spec (λ c κs. search needs) returns returns-2)

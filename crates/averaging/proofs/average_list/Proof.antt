@@ -1,10 +1,15 @@
 -- `average_list` meets its contract: each way out is one case of the outcome. Assumes nothing.
+use Prim.Native.Nat.{_≤_}
 use native.Mathlib.Omega.{arith}
 use mathlib.Core.Path.{sym, ap, _∙_}
-use Rattle.averaging.specs.Listed.{posesOf}
+use lib.ListN.{length}
+use Rattle.average.specs.Average.{meanOf}
+use Rattle.average.specs.declared.Average.{Average}
+use Rattle.average.proofs.Averaging.{mean-taken}
+use Rattle.averaging.specs.Gathered.{maxPoses}
 use Rattle.averaging.specs.Entry.{lowestNotFinite}
 use Rattle.averaging.specs.declared.Averaged.the-variants.{Mean}
-use Rattle.averaging.proofs.Listing.{length-posesOf}
+use Rattle.averaging.proofs.Gathering.{count-gathered, sum-gathered, bad-gathered}
 use Rattle.averaging.proofs.Outcomes.{averagedOf-empty, averagedOf-too-many, averagedOf-not-finite, averagedOf-mean}
 use Rattle.inputs.proofs.Answering.{foundOf-at, foundOf-nothing}
 use borrow.Author.Needs.{needs}
@@ -12,45 +17,34 @@ use Rattle.averaging.proofs.average_list.Statement.{statement}
 use Rattle.averaging.proofs.average_list.Tie as tie
 
 returns : tie.Need-returns
-returns c =
-    let a = c .before .args in
-    sym (averagedOf-empty (posesOf (a .list)) (length-posesOf (a .list) ∙ c .if1 .taken))
+returns c l e = sym (averagedOf-empty l (sym (count-gathered (c .before .args .list) l e) ∙ c .if1 .taken))
 
 returns-2 : tie.Need-returns-2
-returns-2 c =
-    let a = c .before .before .args in
-    sym (averagedOf-too-many (posesOf (a .list)) (omega (arith, length-posesOf (a .list))))
-
-find-not-finite-requires : tie.Need-find-not-finite-requires
-find-not-finite-requires c κs = search needs
-
-enum-known-i : tie.Need-enum-known-i
-enum-known-i c = search needs
-
-enum-told : tie.Need-enum-told
-enum-told c = search needs
-
-mean-of-requires : tie.Need-mean-of-requires
-mean-of-requires c κs = search needs
+returns-2 c l e = sym (averagedOf-too-many l (omega (arith, count-gathered (c .before .before .args .list) l e)))
 
 returns-3 : tie.Need-returns-3
-returns-3 c =
-    let f = c .before .before .before in
-    let a = f .before .before .before .args in
-    let n = length-posesOf (a .list) in
+returns-3 c l e =
+    let two = c .before .before .before in
+    let g = two .before .before .args .list in
+    let n = count-gathered g l e in
+    let few : length l ≤ maxPoses = omega arith in
     sym
-    (averagedOf-not-finite (posesOf (a .list)) (λ e. f .before .before .if1 .left (sym n ∙ e)) (omega arith) (c .before .i .given .0 .0)
-    (foundOf-at (lowestNotFinite (posesOf (a .list))) _ (sym (f .find-not-finite .ensures) ∙ c .before .i .given .1)))
+    (averagedOf-not-finite l (λ z. two .before .if1 .left (n ∙ z)) few (c .before .bad .given .0 .0)
+    (foundOf-at (lowestNotFinite l) _ (sym (bad-gathered g l e few) ∙ c .before .bad .given .1)))
 
 returns-4 : tie.Need-returns-4
-returns-4 c =
-    let f = c .before .before .before in
-    let a = f .before .before .before .args in
-    let n = length-posesOf (a .list) in
-    ap Mean (c .mean-of .ensures)
+returns-4 c l e =
+    let two = c .before .before .before in
+    let g = two .before .before .args .list in
+    let n = count-gathered g l e in
+    let few : length l ≤ maxPoses = omega arith in
+    ap Mean
+    (c .mean .ensures
+    ∙ ap (λ (a : Average). meanOf (a .count) (a .translations) (a .rotations)) (sum-gathered g l e few)
+    ∙ mean-taken l)
     ∙ sym
-    (averagedOf-mean (posesOf (a .list)) (λ e. f .before .before .if1 .left (sym n ∙ e)) (omega arith)
-    (foundOf-nothing (lowestNotFinite (posesOf (a .list))) (sym (f .find-not-finite .ensures) ∙ c .before .enum-told .given .1)))
+    (averagedOf-mean l (λ z. two .before .if1 .left (n ∙ z)) few
+    (foundOf-nothing (lowestNotFinite l) (sym (bad-gathered g l e few) ∙ c .before .enum-told .given .1)))
 
 pub average-list-spec : {M : Type 1} → statement M
 average-list-spec =
@@ -58,9 +52,8 @@ average-list-spec =
     (tie.spec
     returns
     returns-2
-    find-not-finite-requires
-    enum-known-i
-    enum-told
-    mean-of-requires
+    (λ c. search needs)
+    (λ c. search needs)
+    (λ c κs. search needs)
     returns-3
     returns-4)

@@ -12,44 +12,26 @@ use Rattle.chains.proofs.best_parent.Statement.{statement}
 use Rattle.chains.proofs.best_parent.Tie as tie
 
 abbrev Inv-loop : tie.InvT-loop
-Inv-loop masks layer size camera parent₀ most₀ i₀ parent most i = (i ≤ size) × Leads (sharedBy masks camera) layer i parent most
+Inv-loop masks layer size camera least parent₀ most₀ i₀ parent most i = (i ≤ size) × Leads least (sharedBy masks camera) layer i parent most
 
 abbrev μ-loop : tie.MeasureT-loop
-μ-loop masks layer size camera parent₀ most₀ i₀ parent most i = size - i
+μ-loop masks layer size camera least parent₀ most₀ i₀ parent most i = size - i
 
 loop-holds : tie.Need-loop-holds Inv-loop μ-loop
-loop-holds c = (omega arith, leads-none _ _)
-
-element-copy-out-candidate : tie.Need-element-copy-out-candidate Inv-loop μ-loop
-element-copy-out-candidate c = search needs
-
-mul-shared : tie.Need-mul-shared Inv-loop μ-loop
-mul-shared c = search needs
-
-element-copy-out-shared : tie.Need-element-copy-out-shared Inv-loop μ-loop
-element-copy-out-shared c = search needs
+loop-holds c = (omega arith, leads-none _ _ _)
 
 -- The candidate is a camera that has a mask.
 cast-shared : tie.Need-cast-shared Inv-loop μ-loop
 cast-shared c =
-    omega (arith, c .before .before .before .before .pre .2 (c .before .before .before .loop .i) (c .before .before .loop-test .taken))
+    omega (arith, c .before .before .before .before .pre .3 (c .before .before .before .loop .i) (c .before .before .loop-test .taken))
 
 mul-shared-2 : tie.Need-mul-shared-2 Inv-loop μ-loop
 mul-shared-2 c =
-    omega (arith, c .before .before .before .before .pre .2 (c .before .before .before .loop .i) (c .before .before .loop-test .taken))
+    omega (arith, c .before .before .before .before .pre .3 (c .before .before .before .loop .i) (c .before .before .loop-test .taken))
 
 element-copy-out-shared-2 : tie.Need-element-copy-out-shared-2 Inv-loop μ-loop
 element-copy-out-shared-2 c =
-    omega (arith, c .before .before .before .before .pre .2 (c .before .before .before .loop .i) (c .before .before .loop-test .taken))
-
-shared-requires : tie.Need-shared-requires Inv-loop μ-loop
-shared-requires c κs = search needs
-
-add-i : tie.Need-add-i Inv-loop μ-loop
-add-i c = search needs
-
-loop-less : tie.Need-loop-less Inv-loop μ-loop
-loop-less c = search needs
+    omega (arith, c .before .before .before .before .pre .3 (c .before .before .before .loop .i) (c .before .before .loop-test .taken))
 
 loop-again : tie.Need-loop-again Inv-loop μ-loop
 unfolding sharedBy
@@ -57,8 +39,8 @@ loop-again c =
     let leads = c .before .before .before .before .before .before .loop .inv .1 in
     let views = c .before .shared .ensures in
     ⊎-elim
-    (λ t. (omega arith, rw (t .1, t .2) (leads-more _ _ leads views (t .0 .taken))))
-    (λ t. (omega arith, rw (t .1, t .2) (leads-same _ _ leads views (t .0 .left))))
+    (λ t. (omega arith, rw (t .1, t .2) (leads-more _ _ _ leads views (t .0 .taken))))
+    (λ t. (omega arith, rw (t .1, t .2) (leads-same _ _ _ leads views (t .0 .left))))
     (c .if1 .came)
 
 returns : tie.Need-returns Inv-loop μ-loop
@@ -66,7 +48,7 @@ returns c =
     let l = c .before .loop in
     let a = c .before .before .args in
     let all : l .i ≡ a .size = omega arith in
-    l .inv .1 .parent-is ∙ ap (λ (i : ℕ). foundByte (firstMost (sharedBy (a .masks .now) (a .camera)) (a .layer .now) i)) all
+    l .inv .1 .parent-is ∙ ap (λ (i : ℕ). foundByte (firstMost (a .least) (sharedBy (a .masks .now) (a .camera)) (a .layer .now) i)) all
 
 pub best-parent-spec : {M : Type 1} → statement M
 best-parent-spec =
@@ -74,15 +56,16 @@ best-parent-spec =
     (tie.spec
     Inv-loop
     μ-loop
+    (λ c. search needs)
     loop-holds
-    element-copy-out-candidate
-    mul-shared
-    element-copy-out-shared
+    (λ c. search needs)
+    (λ c. search needs)
+    (λ c. search needs)
     cast-shared
     mul-shared-2
     element-copy-out-shared-2
-    shared-requires
-    add-i
-    loop-less
+    (λ c κs. search needs)
+    (λ c. search needs)
+    (λ c. search needs)
     loop-again
     returns)

@@ -4,10 +4,10 @@ use Prim.Native.Nat.{ℕ, suc, _-_, _≤_}
 use native.Mathlib.Omega.{arith}
 use native.Mathlib.Numerals.{add-one}
 use borrow.Author.Needs.{needs}
-use mathlib.Core.Path.{_≡_, refl}
+use mathlib.Core.Path.{_≡_}
 use mathlib.Core.Logic.{⊎-elim}
 use lib.ListN.{length, length-set}
-use Rattle.chains.specs.Limits.{maxCameras}
+use Rattle.limits.specs.Limits.{maxCameras}
 use Rattle.chains.specs.Masks.{sharedBy}
 use Rattle.chains.specs.Search.{Reached}
 use Rattle.chains.proofs.Turning.{searchOf, Turned, turned-start, turned-end, turn-placed-before, turn-no-parent, turn-placed}
@@ -15,48 +15,18 @@ use Rattle.chains.proofs.next_layer.Statement.{statement}
 use Rattle.chains.proofs.next_layer.Tie as tie
 
 abbrev Inv-loop : tie.InvT-loop
-Inv-loop masks cameras layer size number parent₀ links₀ next₀ count₀ camera₀ parent links next count camera =
+Inv-loop masks cameras least layer size number parent₀ links₀ next₀ count₀ camera₀ parent links next count camera =
     (camera ≤ cameras) × (length parent ≡ maxCameras) × (length links ≡ maxCameras) × (length next ≡ maxCameras) × (count ≤ camera)
-    × ((reference n : ℕ) → number ≡ suc n → Reached cameras (sharedBy masks) reference (searchOf parent₀ links₀ n layer size)
-    → Turned cameras (sharedBy masks) reference n camera parent links next count)
+    × ((reference n : ℕ) → number ≡ suc n → Reached cameras (sharedBy masks) least reference (searchOf parent₀ links₀ n layer size)
+    → Turned cameras (sharedBy masks) least reference n camera parent links next count)
 
 abbrev μ-loop : tie.MeasureT-loop
-μ-loop masks cameras layer size number parent₀ links₀ next₀ count₀ camera₀ parent links next count camera = cameras - camera
-
-add-number : tie.Need-add-number Inv-loop μ-loop
-add-number c = search needs
+μ-loop masks cameras least layer size number parent₀ links₀ next₀ count₀ camera₀ parent links next count camera = cameras - camera
 
 loop-holds : tie.Need-loop-holds Inv-loop μ-loop
 loop-holds c =
     let s = c .before .before .before .before .before in
-    (omega arith, search needs, search needs, search needs, omega arith, λ reference n e at. turned-start _ _ _ at (s .pre .0) _)
-
-array-read-if1 : tie.Need-array-read-if1 Inv-loop μ-loop
-array-read-if1 c = search needs
-
-best-parent-requires : tie.Need-best-parent-requires Inv-loop μ-loop
-best-parent-requires c κs = search needs
-
-array-write-parent : tie.Need-array-write-parent Inv-loop μ-loop
-array-write-parent c = search needs
-
-array-write-links : tie.Need-array-write-links Inv-loop μ-loop
-array-write-links c = search needs
-
-cast-next : tie.Need-cast-next Inv-loop μ-loop
-cast-next c = search needs
-
-array-write-next : tie.Need-array-write-next Inv-loop μ-loop
-array-write-next c = search needs
-
-add-count : tie.Need-add-count Inv-loop μ-loop
-add-count c = search needs
-
-add-camera : tie.Need-add-camera Inv-loop μ-loop
-add-camera c = search needs
-
-loop-less : tie.Need-loop-less Inv-loop μ-loop
-loop-less c = search needs
+    (omega arith, search needs, search needs, search needs, omega arith, λ reference n e at. turned-start _ _ _ _ at (s .pre .0) (s .pre .1) _)
 
 -- The three ways through the body: the camera is placed now, finds no parent, or was placed before.
 loop-again : tie.Need-loop-again Inv-loop μ-loop
@@ -73,7 +43,7 @@ loop-again c =
       omega arith,
       λ reference n e at.
           rw (add-one (l .camera), add-one (l .count))
-          (turn-placed _ _ _ at (s .pre .0) (l .inv .5 reference n e at) inside (t .0 .taken) (t .2 .ensures) (t .3 .taken) e (l .inv .1) (l .inv .2) (l .inv .3)),
+          (turn-placed _ _ _ _ at (s .pre .0) (s .pre .1) (l .inv .5 reference n e at) inside (t .0 .taken) (t .2 .ensures) (t .3 .taken) e (l .inv .1) (l .inv .2) (l .inv .3)),
     ))
     (⊎-elim
     (λ t. rw (t .4, t .5, t .6, t .7) (
@@ -83,7 +53,7 @@ loop-again c =
       l .inv .3,
       omega arith,
       λ reference n e at.
-          rw (add-one (l .camera)) (turn-no-parent _ _ _ at (s .pre .0) (l .inv .5 reference n e at) inside (t .0 .taken) (t .2 .ensures) (t .3 .left)),
+          rw (add-one (l .camera)) (turn-no-parent _ _ _ _ at (s .pre .0) (s .pre .1) (l .inv .5 reference n e at) inside (t .0 .taken) (t .2 .ensures) (t .3 .left)),
     ))
     (λ t. rw (t .1, t .2, t .3, t .4) (
       omega arith,
@@ -91,7 +61,7 @@ loop-again c =
       l .inv .2,
       l .inv .3,
       omega arith,
-      λ reference n e at. rw (add-one (l .camera)) (turn-placed-before _ _ _ at (s .pre .0) (l .inv .5 reference n e at) inside (t .0 .left)),
+      λ reference n e at. rw (add-one (l .camera)) (turn-placed-before _ _ _ _ at (s .pre .0) (s .pre .1) (l .inv .5 reference n e at) inside (t .0 .left)),
     )))
     (c .if1 .came)
 
@@ -103,7 +73,7 @@ returns c =
     record {
       number-next = omega arith;
       reached-next = λ reference at.
-          rw (add-one _) (turned-end _ _ _ (rw all at (l .inv .5 reference (s .args .search .number) (add-one _) at)) (l .inv .1) (l .inv .2));
+          rw (add-one _) (turned-end _ _ _ _ (rw all at (l .inv .5 reference (s .args .search .number) (add-one _) at)) (l .inv .1) (l .inv .2));
     }
 
 pub next-layer-spec : {M : Type 1} → statement M
@@ -112,16 +82,16 @@ next-layer-spec =
     (tie.spec
     Inv-loop
     μ-loop
-    add-number
+    (λ c. search needs)
     loop-holds
-    array-read-if1
-    best-parent-requires
-    array-write-parent
-    array-write-links
-    cast-next
-    array-write-next
-    add-count
-    add-camera
-    loop-less
+    (λ c. search needs)
+    (λ c κs. search needs)
+    (λ c. search needs)
+    (λ c. search needs)
+    (λ c. search needs)
+    (λ c. search needs)
+    (λ c. search needs)
+    (λ c. search needs)
+    (λ c. search needs)
     loop-again
     returns)

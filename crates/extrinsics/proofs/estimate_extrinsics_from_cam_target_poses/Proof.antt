@@ -7,24 +7,12 @@ use Rattle.extrinsics.proofs.DirectCall.{input-sizes, input-lengths, di
 use Rattle.extrinsics.proofs.estimate_extrinsics_from_cam_target_poses.Statement.{statement}
 use Rattle.extrinsics.proofs.estimate_extrinsics_from_cam_target_poses.Tie as tie
 
-check-input-requires : tie.Need-check-input-requires
-check-input-requires c κs = search needs
-
-enum-known-refusal : tie.Need-enum-known-refusal
-enum-known-refusal c = search needs
-
 returns : tie.Need-returns
 returns c =
     let k = c .before .before .before in
     let a = k .before .before .before .before .before .before .args in
     direct-refused (a .counts .now) (a .marks .now) (a .floats .now) (a .reference) (a .transforms .now) (a .chains .now) _
     (checkedOf-refused _ _ (sym (k .check-input .ensures) ∙ c .before .refusal .given .1))
-
-enum-told : tie.Need-enum-told
-enum-told c = search needs
-
-camera-count-requires : tie.Need-camera-count-requires
-camera-count-requires c κs = search needs
 
 masks-of-requires : tie.Need-masks-of-requires
 masks-of-requires c κs =
@@ -45,12 +33,6 @@ solve-requires c κs =
     direct-fitting (a .counts .now) (a .marks .now) (a .floats .now) (a .reference) (a .transforms .now) (a .chains .now) (m .masks-of .result) (m .before .camera-count .result) (m .before .camera-count .ensures) (m .masks-of .ensures)
     (checkedOf-passed _ (sym (k .check-input .ensures) ∙ t .enum-told .given .1))
 
-same-length : tie.Need-same-length
-same-length c = search needs
-
-same-length-2 : tie.Need-same-length-2
-same-length-2 c = search needs
-
 returns-2 : tie.Need-returns-2
 returns-2 c =
     let s = c .before .before .before .before in
@@ -66,13 +48,13 @@ pub estimate-extrinsics-from-cam-target-poses-spec : {M : Type 1} → statement 
 estimate-extrinsics-from-cam-target-poses-spec =
     tie.close
     (tie.spec
-    check-input-requires
-    enum-known-refusal
+    (λ c κs. search needs)
+    (λ c. search needs)
     returns
-    enum-told
-    camera-count-requires
+    (λ c. search needs)
+    (λ c κs. search needs)
     masks-of-requires
     solve-requires
-    same-length
-    same-length-2
+    (λ c. search needs)
+    (λ c. search needs)
     returns-2)

@@ -14,15 +14,6 @@ mul-cells c = omega (arith, mul-le-mul (c .pre .0) (c .pre .1))
 mul-if1 : tie.Need-mul-if1
 mul-if1 c = omega (arith, mul-le-mul (c .pre .0) (c .pre .1))
 
-add-if1 : tie.Need-add-if1
-add-if1 c = search needs
-
-mul-if1-2 : tie.Need-mul-if1-2
-mul-if1-2 c = search needs
-
-mul-if1-3 : tie.Need-mul-if1-3
-mul-if1-3 c = search needs
-
 returns : tie.Need-returns
 unfolding lengthRefusal checkedOf refuseIf
 returns c = simp (c .if1 .taken)
@@ -32,4 +23,4 @@ unfolding lengthRefusal checkedOf refuseIf
 returns-2 c = simp (c .if1 .left)
 
 pub check-lengths-spec : {M : Type 1} → statement M
-check-lengths-spec = tie.close (tie.spec mul-cells mul-if1 add-if1 mul-if1-2 mul-if1-3 returns returns-2)
+check-lengths-spec = tie.close (tie.spec mul-cells mul-if1 (λ c. search needs) (λ c. search needs) (λ c. search needs) returns returns-2)

@@ -9,9 +9,10 @@ use borrow.Author.Needs.{needs}
 use borrow.Author.Tests.{lt-ltb, le-ltb}
 use lib.ListN.{length, getD}
 use lib.Dec.{ltb}
-use Rattle.inputs.specs.Finding.{lowest, foundOf}
+use Rattle.lists.specs.Finding.{lowest}
+use Rattle.inputs.specs.Finding.{foundOf}
 use Rattle.inputs.specs.Inputs.{lowestBadMark}
-use Rattle.inputs.proofs.Lowest.{lowest-none-more, lowest-first}
+use Rattle.lists.proofs.Lowest.{lowest-none-more, lowest-first}
 use Rattle.inputs.proofs.find_bad_mark.Statement.{statement}
 use Rattle.inputs.proofs.find_bad_mark.Tie as tie
 
@@ -28,12 +29,6 @@ loop-holds : tie.Need-loop-holds Inv-loop μ-loop
 unfolding lowest
 loop-holds c = (search needs, refl)
 
-shared-slice-read-if1 : tie.Need-shared-slice-read-if1 Inv-loop μ-loop
-shared-slice-read-if1 c = search needs
-
-cast-t7 : tie.Need-cast-t7 Inv-loop μ-loop
-cast-t7 c = search needs
-
 returns : tie.Need-returns Inv-loop μ-loop
 unfolding lowestBadMark foundOf
 returns c =
@@ -41,12 +36,6 @@ returns c =
     let marks = l .before .args .marks .now in
     let first = lowest-first (isBad marks) (l .loop .at) (length marks) (search needs) (l .loop .inv .1) (lt-ltb _ _ (c .if1 .taken)) in
     ap foundOf (sym first)
-
-add-at : tie.Need-add-at Inv-loop μ-loop
-add-at c = search needs
-
-loop-less : tie.Need-loop-less Inv-loop μ-loop
-loop-less c = search needs
 
 loop-again : tie.Need-loop-again Inv-loop μ-loop
 loop-again c =
@@ -66,10 +55,10 @@ find-bad-mark-spec =
     Inv-loop
     μ-loop
     loop-holds
-    shared-slice-read-if1
-    cast-t7
+    (λ c. search needs)
+    (λ c. search needs)
     returns
-    add-at
-    loop-less
+    (λ c. search needs)
+    (λ c. search needs)
     loop-again
     returns-2)

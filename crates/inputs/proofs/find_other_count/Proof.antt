@@ -9,9 +9,10 @@ use borrow.Author.Needs.{needs}
 use borrow.Author.Tests.{eq-eqb, ne-eqb}
 use lib.ListN.{length, getD}
 use lib.Dec.{eqb}
-use Rattle.inputs.specs.Finding.{lowest, foundOf}
+use Rattle.lists.specs.Finding.{lowest}
+use Rattle.inputs.specs.Finding.{foundOf}
 use Rattle.inputs.specs.Inputs.{lowestOtherCount}
-use Rattle.inputs.proofs.Lowest.{lowest-none-more, lowest-first}
+use Rattle.lists.proofs.Lowest.{lowest-none-more, lowest-first}
 use Rattle.inputs.proofs.find_other_count.Statement.{statement}
 use Rattle.inputs.proofs.find_other_count.Tie as tie
 
@@ -28,18 +29,6 @@ loop-holds : tie.Need-loop-holds Inv-loop μ-loop
 unfolding lowest
 loop-holds c = (search needs, refl)
 
-mul-if1 : tie.Need-mul-if1 Inv-loop μ-loop
-mul-if1 c = search needs
-
-shared-slice-read-if1 : tie.Need-shared-slice-read-if1 Inv-loop μ-loop
-shared-slice-read-if1 c = search needs
-
-shared-slice-read-if1-2 : tie.Need-shared-slice-read-if1-2 Inv-loop μ-loop
-shared-slice-read-if1-2 c = search needs
-
-cast-t9 : tie.Need-cast-t9 Inv-loop μ-loop
-cast-t9 c = search needs
-
 returns : tie.Need-returns Inv-loop μ-loop
 unfolding lowestOtherCount foundOf
 returns c =
@@ -47,12 +36,6 @@ returns c =
     let counts = l .before .args .counts .now in
     let first = lowest-first (differs counts) (l .loop .view) (length counts) (search needs) (l .loop .inv .1) (rw (ne-eqb _ _ (c .if1 .taken))) in
     ap foundOf (sym first)
-
-add-view : tie.Need-add-view Inv-loop μ-loop
-add-view c = search needs
-
-loop-less : tie.Need-loop-less Inv-loop μ-loop
-loop-less c = search needs
 
 loop-again : tie.Need-loop-again Inv-loop μ-loop
 loop-again c =
@@ -74,12 +57,12 @@ find-other-count-spec =
     Inv-loop
     μ-loop
     loop-holds
-    mul-if1
-    shared-slice-read-if1
-    shared-slice-read-if1-2
-    cast-t9
+    (λ c. search needs)
+    (λ c. search needs)
+    (λ c. search needs)
+    (λ c. search needs)
     returns
-    add-view
-    loop-less
+    (λ c. search needs)
+    (λ c. search needs)
     loop-again
     returns-2)

@@ -8,7 +8,7 @@ use mathlib.Core.Logic.{⊎-elim}
 use borrow.Author.Needs.{needs}
 use lib.Arith.{digits-lt}
 use lib.Pow.{pow-mono, shl-exact}
-use Rattle.inputs.specs.Finding.{powerSum}
+use Rattle.lists.specs.Finding.{powerSum}
 use Rattle.inputs.specs.Inputs.{maskOf}
 use Rattle.inputs.proofs.MarkedMasks.{maskOf-below, maskOf-marked, maskOf-unmarked}
 use Rattle.inputs.proofs.mask_of.Statement.{statement}
@@ -37,21 +37,12 @@ add-if1 c =
 shared-slice-read-if1 : tie.Need-shared-slice-read-if1 Inv-loop μ-loop
 shared-slice-read-if1 c = omega (arith, digits-lt (c .before .loop-test .taken) (c .before .before .before .pre .1))
 
-shl-mask : tie.Need-shl-mask Inv-loop μ-loop
-shl-mask c = search needs
-
 add-mask : tie.Need-add-mask Inv-loop μ-loop
 add-mask c =
     let l = c .before .before .before in
     let a = l .before .args in
     let h : suc (l .loop .view) ≤ 64 = omega arith in
     omega (arith, maskOf-below (a .marks .now) (a .cameras) (a .camera) (l .loop .view), pow-mono h)
-
-add-view : tie.Need-add-view Inv-loop μ-loop
-add-view c = search needs
-
-loop-less : tie.Need-loop-less Inv-loop μ-loop
-loop-less c = search needs
 
 loop-again : tie.Need-loop-again Inv-loop μ-loop
 loop-again c =
@@ -82,9 +73,9 @@ mask-of-spec =
     mul-if1
     add-if1
     shared-slice-read-if1
-    shl-mask
+    (λ c. search needs)
     add-mask
-    add-view
-    loop-less
+    (λ c. search needs)
+    (λ c. search needs)
     loop-again
     returns)

@@ -13,18 +13,9 @@ returns-2 : tie.Need-returns-2
 unfolding sized
 returns-2 c = simp (le-leb _ _ (c .before .if1 .left), lt-leb _ _ (c .if2 .taken))
 
-add-if3 : tie.Need-add-if3
-add-if3 c = search needs
-
-mul-if3 : tie.Need-mul-if3
-mul-if3 c = search needs
-
 returns-3 : tie.Need-returns-3
 unfolding sized
 returns-3 c = simp (le-leb _ _ (c .before .before .if1 .left), le-leb _ _ (c .before .if2 .left), lt-leb _ _ (c .if3 .taken))
-
-mul-result : tie.Need-mul-result
-mul-result c = search needs
 
 returns-4 : tie.Need-returns-4
 unfolding sized
@@ -32,4 +23,4 @@ returns-4 c = simp (le-leb _ _ (c .before .before .if1 .left), le-leb _ _ (c .be
 
 pub is-sized-spec : {M : Type 1} → statement M
 is-sized-spec =
-    tie.close (tie.spec returns returns-2 add-if3 mul-if3 returns-3 mul-result returns-4)
+    tie.close (tie.spec (λ c. search needs) (λ c. search needs) returns returns-2 (λ c. search needs) (λ c. search needs) returns-3 (λ c. search needs) returns-4)

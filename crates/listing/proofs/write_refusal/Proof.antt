@@ -8,14 +8,8 @@ use Rattle.listing.proofs.write_refusal.Tie as tie
 returns : tie.Need-returns
 returns c = rw (lt-leb _ _ (c .if1 .taken)) (front-nothing (c .before .before .args .out .now))
 
-put-refusal-requires : tie.Need-put-refusal-requires
-put-refusal-requires c κs = search needs
-
-same-length : tie.Need-same-length
-same-length c = search needs
-
 returns-2 : tie.Need-returns-2
 returns-2 c = rw (le-leb _ _ (c .before .before .before .before .if1 .left)) (put-front (c .before .before .put-refusal .ensures))
 
 pub write-refusal-spec : {M : Type 1} → statement M
-write-refusal-spec = tie.close (tie.spec returns put-refusal-requires same-length returns-2)
+write-refusal-spec = tie.close (tie.spec returns (λ c κs. search needs) (λ c. search needs) returns-2)

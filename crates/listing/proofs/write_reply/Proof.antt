@@ -5,24 +5,6 @@ use Rattle.listing.proofs.Writing.{front-nothing}
 use Rattle.listing.proofs.write_reply.Statement.{statement}
 use Rattle.listing.proofs.write_reply.Tie as tie
 
-enum-told : tie.Need-enum-told
-enum-told c = search needs
-
-enum-told-2 : tie.Need-enum-told-2
-enum-told-2 c = search needs
-
-enum-told-3 : tie.Need-enum-told-3
-enum-told-3 c = search needs
-
-write-solved-requires : tie.Need-write-solved-requires
-write-solved-requires c κs = search needs
-
-enum-known-reply : tie.Need-enum-known-reply
-enum-known-reply c = search needs
-
-write-refusal-requires : tie.Need-write-refusal-requires
-write-refusal-requires c κs = search needs
-
 returns : tie.Need-returns
 unfolding written fits replyText
 returns c = rw (c .enum-told .given .1) (front-nothing (c .before .before .before .before .before .args .out .now))
@@ -31,15 +13,9 @@ returns-2 : tie.Need-returns-2
 unfolding written fits replyText
 returns-2 c = rw (c .enum-told2 .given .1) (front-nothing (c .before .before .before .before .before .args .out .now))
 
-same-length : tie.Need-same-length
-same-length c = search needs
-
 returns-3 : tie.Need-returns-3
 unfolding written fits replyText
 returns-3 c = rw (c .before .before .before .before .enum-told3 .given .1) (c .before .before .write-solved .ensures)
-
-same-length-2 : tie.Need-same-length-2
-same-length-2 c = search needs
 
 returns-4 : tie.Need-returns-4
 unfolding written fits replyText
@@ -49,15 +25,15 @@ pub write-reply-spec : {M : Type 1} → statement M
 write-reply-spec =
     tie.close
     (tie.spec
-    enum-told
-    enum-told-2
-    enum-told-3
-    write-solved-requires
-    enum-known-reply
-    write-refusal-requires
+    (λ c. search needs)
+    (λ c. search needs)
+    (λ c. search needs)
+    (λ c κs. search needs)
+    (λ c. search needs)
+    (λ c κs. search needs)
     returns
     returns-2
-    same-length
+    (λ c. search needs)
     returns-3
-    same-length-2
+    (λ c. search needs)
     returns-4)

@@ -8,15 +8,6 @@ estimate-extrinsics-from-cam-target-poses-requires :
     tie.Need-estimate-extrinsics-from-cam-target-poses-requires
 estimate-extrinsics-from-cam-target-poses-requires c κs = search needs
 
-outcome-code-requires : tie.Need-outcome-code-requires
-outcome-code-requires c κs = search needs
-
-same-length : tie.Need-same-length
-same-length c = search needs
-
-same-length-2 : tie.Need-same-length-2
-same-length-2 c = search needs
-
 returns : tie.Need-returns
 returns c =
     let e = c .before .before .before .before .before .estimate-extrinsics-from-cam-target-poses in
@@ -28,7 +19,7 @@ placer-estimate-spec =
     tie.close
     (tie.spec
     estimate-extrinsics-from-cam-target-poses-requires
-    outcome-code-requires
-    same-length
-    same-length-2
+    (λ c κs. search needs)
+    (λ c. search needs)
+    (λ c. search needs)
     returns)

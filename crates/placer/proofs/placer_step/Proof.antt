@@ -10,18 +10,6 @@ use Rattle.placer.proofs.Steps.{stepped-refused, stepped-obeyed}
 use Rattle.placer.proofs.placer_step.Statement.{statement}
 use Rattle.placer.proofs.placer_step.Tie as tie
 
-is-record-requires : tie.Need-is-record-requires
-is-record-requires c κs = search needs
-
-not-a-record-requires : tie.Need-not-a-record-requires
-not-a-record-requires c κs = search needs
-
-refusal-code-requires : tie.Need-refusal-code-requires
-refusal-code-requires c κs = search needs
-
-same-length : tie.Need-same-length
-same-length c = search needs
-
 returns : tie.Need-returns
 returns c =
     let n = c .before in
@@ -38,9 +26,6 @@ read-record-requires c κs =
     let a = k .before .before .before .before .before .before .before .args in
     isRecord-words (a .session .now) (sym (k .is-record .ensures) ∙ not-false _ (t .if1 .left))
 
-obey-requires : tie.Need-obey-requires
-obey-requires c κs = search needs
-
 write-record-requires : tie.Need-write-record-requires
 write-record-requires c κs =
     let o = c .before .before .before .before .before .before .before .before in
@@ -48,21 +33,6 @@ write-record-requires c κs =
     let k = t .before in
     let a = k .before .before .before .before .before .before .before .args in
     isRecord-words (a .session .now) (sym (k .is-record .ensures) ∙ not-false _ (t .if1 .left)) .long
-
-reply-code-requires : tie.Need-reply-code-requires
-reply-code-requires c κs = search needs
-
-same-length-2 : tie.Need-same-length-2
-same-length-2 c = search needs
-
-same-length-3 : tie.Need-same-length-3
-same-length-3 c = search needs
-
-same-length-4 : tie.Need-same-length-4
-same-length-4 c = search needs
-
-same-length-5 : tie.Need-same-length-5
-same-length-5 c = search needs
 
 returns-2 : tie.Need-returns-2
 returns-2 c =
@@ -79,17 +49,17 @@ pub placer-step-spec : {M : Type 1} → statement M
 placer-step-spec =
     tie.close
     (tie.spec
-    is-record-requires
-    not-a-record-requires
-    refusal-code-requires
-    same-length
+    (λ c κs. search needs)
+    (λ c κs. search needs)
+    (λ c κs. search needs)
+    (λ c. search needs)
     returns
     read-record-requires
-    obey-requires
+    (λ c κs. search needs)
     write-record-requires
-    reply-code-requires
-    same-length-2
-    same-length-3
-    same-length-4
-    same-length-5
+    (λ c κs. search needs)
+    (λ c. search needs)
+    (λ c. search needs)
+    (λ c. search needs)
+    (λ c. search needs)
     returns-2)

@@ -7,11 +7,5 @@ use Rattle.replay.proofs.pattern_of.Tie as tie
 float-to-bits-result : tie.Need-float-to-bits-result
 float-to-bits-result c = equal-not-nan _ (c .if1 .taken)
 
-returns : tie.Need-returns
-returns c = search needs
-
-returns-2 : tie.Need-returns-2
-returns-2 c = search needs
-
 pub pattern-of-spec : {M : Type 1} → statement M
-pattern-of-spec = tie.close (tie.spec float-to-bits-result returns returns-2)
+pattern-of-spec = tie.close (tie.spec float-to-bits-result (λ c. search needs) (λ c. search needs))

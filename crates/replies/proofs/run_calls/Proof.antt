@@ -12,77 +12,26 @@ Inv-loop stream from buffer₀ transforms₀ chains₀ text₀ session₀ at₀ 
 abbrev μ-loop : tie.MeasureT-loop
 μ-loop stream from buffer₀ transforms₀ chains₀ text₀ session₀ at₀ left₀ buffer transforms chains text session at left = left
 
-add-left : tie.Need-add-left Inv-loop μ-loop
-add-left c = search needs
-
-loop-holds : tie.Need-loop-holds Inv-loop μ-loop
-loop-holds c = search needs
-
-obey-requires : tie.Need-obey-requires Inv-loop μ-loop
-obey-requires c κs = search needs
-
-print-step-requires : tie.Need-print-step-requires Inv-loop μ-loop
-print-step-requires c κs = search needs
-
-same-length : tie.Need-same-length Inv-loop μ-loop
-same-length c = search needs
-
-same-length-2 : tie.Need-same-length-2 Inv-loop μ-loop
-same-length-2 c = search needs
-
-same-length-3 : tie.Need-same-length-3 Inv-loop μ-loop
-same-length-3 c = search needs
-
-same-length-4 : tie.Need-same-length-4 Inv-loop μ-loop
-same-length-4 c = search needs
-
-returns : tie.Need-returns Inv-loop μ-loop
-returns c = search needs
-
-sub-left : tie.Need-sub-left Inv-loop μ-loop
-sub-left c = search needs
-
-loop-less : tie.Need-loop-less Inv-loop μ-loop
-loop-less c = search needs
-
-loop-again : tie.Need-loop-again Inv-loop μ-loop
-loop-again c = search needs
-
-same-length-5 : tie.Need-same-length-5 Inv-loop μ-loop
-same-length-5 c = search needs
-
-same-length-6 : tie.Need-same-length-6 Inv-loop μ-loop
-same-length-6 c = search needs
-
-same-length-7 : tie.Need-same-length-7 Inv-loop μ-loop
-same-length-7 c = search needs
-
-same-length-8 : tie.Need-same-length-8 Inv-loop μ-loop
-same-length-8 c = search needs
-
-returns-2 : tie.Need-returns-2 Inv-loop μ-loop
-returns-2 c = search needs
-
 pub run-calls-spec : {M : Type 1} → statement M
 run-calls-spec =
     tie.close
     (tie.spec
     Inv-loop
     μ-loop
-    add-left
-    loop-holds
-    obey-requires
-    print-step-requires
-    same-length
-    same-length-2
-    same-length-3
-    same-length-4
-    returns
-    sub-left
-    loop-less
-    loop-again
-    same-length-5
-    same-length-6
-    same-length-7
-    same-length-8
-    returns-2)
+    (λ c. search needs)
+    (λ c. search needs)
+    (λ c κs. search needs)
+    (λ c κs. search needs)
+    (λ c. search needs)
+    (λ c. search needs)
+    (λ c. search needs)
+    (λ c. search needs)
+    (λ c. search needs)
+    (λ c. search needs)
+    (λ c. search needs)
+    (λ c. search needs)
+    (λ c. search needs)
+    (λ c. search needs)
+    (λ c. search needs)
+    (λ c. search needs)
+    (λ c. search needs))

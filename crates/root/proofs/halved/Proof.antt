@@ -7,9 +7,6 @@ use borrow.Author.Needs.{needs}
 use Rattle.root.proofs.halved.Statement.{statement}
 use Rattle.root.proofs.halved.Tie as tie
 
-add-scaled-root : tie.Need-add-scaled-root
-add-scaled-root c = search needs
-
 mul-scaled-root : tie.Need-mul-scaled-root
 mul-scaled-root c = let h = halves (c .args .m) (c .args .a) in omega arith
 
@@ -20,4 +17,4 @@ returns : tie.Need-returns
 returns c = c .scaled-root .ensures ∙ ap pattern (halves (c .before .args .m) (c .before .args .a) .same)
 
 pub halved-spec : {M : Type 1} → statement M
-halved-spec = tie.close (tie.spec add-scaled-root mul-scaled-root scaled-root-requires returns)
+halved-spec = tie.close (tie.spec (λ c. search needs) mul-scaled-root scaled-root-requires returns)

@@ -4,21 +4,6 @@ use borrow.Author.Needs.{needs}
 use Rattle.root.proofs.root_bits.Statement.{statement}
 use Rattle.root.proofs.root_bits.Tie as tie
 
-halved-requires : tie.Need-halved-requires
-halved-requires c κs = search needs
-
-add-halved : tie.Need-add-halved
-add-halved c = search needs
-
-sub-halved : tie.Need-sub-halved
-sub-halved c = search needs
-
-add-halved-2 : tie.Need-add-halved-2
-add-halved-2 c = search needs
-
-halved-requires-2 : tie.Need-halved-requires-2
-halved-requires-2 c κs = search needs
-
 returns : tie.Need-returns
 returns c = let b = c .before .before .args .bits in root-subnormal b (c .halved .result) (c .before .before .pre .0) (c .before .before .pre .1) (c .before .if1 .taken) (c .halved .ensures)
 
@@ -29,10 +14,10 @@ pub root-bits-spec : {M : Type 1} → statement M
 root-bits-spec =
     tie.close
     (tie.spec
-    halved-requires
-    add-halved
-    sub-halved
-    add-halved-2
-    halved-requires-2
+    (λ c κs. search needs)
+    (λ c. search needs)
+    (λ c. search needs)
+    (λ c. search needs)
+    (λ c κs. search needs)
     returns
     returns-2)

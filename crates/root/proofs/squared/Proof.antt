@@ -14,9 +14,6 @@ mul-t5 c = let p = square-parts (c .args .r) (c .pre) in omega arith
 add-t7 : tie.Need-add-t7
 add-t7 c = let p = square-parts (c .args .r) (c .pre) in omega arith
 
-mul-t9 : tie.Need-mul-t9
-mul-t9 c = search needs
-
 mul-t10 : tie.Need-mul-t10
 mul-t10 c = let p = square-parts (c .args .r) (c .pre) in omega arith
 
@@ -27,4 +24,4 @@ returns : tie.Need-returns
 returns c = let p = square-parts (c .args .r) (c .pre) in omega arith
 
 pub squared-spec : {M : Type 1} → statement M
-squared-spec = tie.close (tie.spec mul-c mul-t5 add-t7 mul-t9 mul-t10 add-t11 returns)
+squared-spec = tie.close (tie.spec mul-c mul-t5 add-t7 (λ c. search needs) mul-t10 add-t11 returns)

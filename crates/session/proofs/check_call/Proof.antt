@@ -11,15 +11,9 @@ returns : tie.Need-returns
 unfolding callRefusal checkedOf refuseIf orElse firstOf
 returns c = simp (lt-ltb _ _ (c .if1 .taken))
 
-is-possible-requires : tie.Need-is-possible-requires
-is-possible-requires c κs = search needs
-
 returns-2 : tie.Need-returns-2
 unfolding callRefusal checkedOf refuseIf orElse firstOf
 returns-2 c = simp (le-ltb _ _ (c .before .before .if1 .left), rw (c .before .is-possible .ensures) at (c .if2 .taken))
-
-cast-t21 : tie.Need-cast-t21
-cast-t21 c = search needs
 
 returns-3 : tie.Need-returns-3
 unfolding callRefusal checkedOf refuseIf orElse firstOf
@@ -35,4 +29,4 @@ returns-4 c =
 
 pub check-call-spec : {M : Type 1} → statement M
 check-call-spec =
-    tie.close (tie.spec returns is-possible-requires returns-2 cast-t21 returns-3 returns-4)
+    tie.close (tie.spec returns (λ c κs. search needs) returns-2 (λ c. search needs) returns-3 returns-4)

@@ -13,24 +13,6 @@ use Rattle.session.proofs.PassedCalls.{call-passed}
 use Rattle.session.proofs.obey.Statement.{statement}
 use Rattle.session.proofs.obey.Tie as tie
 
-check-call-requires : tie.Need-check-call-requires
-check-call-requires c κs = search needs
-
-enum-known-refusal : tie.Need-enum-known-refusal
-enum-known-refusal c = search needs
-
-refuse-requires : tie.Need-refuse-requires
-refuse-requires c κs = search needs
-
-same-length : tie.Need-same-length
-same-length c = search needs
-
-same-length-2 : tie.Need-same-length-2
-same-length-2 c = search needs
-
-same-length-3 : tie.Need-same-length-3
-same-length-3 c = search needs
-
 returns : tie.Need-returns
 returns c =
     let p = c .before .before .before .before in
@@ -39,18 +21,6 @@ returns c =
     let refused = check-refused _ _ _ (p .check-call .ensures) (c .before .before .refusal .given .1) in
     called t (a .stream .now) (a .at) _ _ _ _
     (ap (λ (s : Step). resultOf s (a .buffer .now) (a .transforms .now) (a .chains .now)) (c .refuse .ensures) ∙ sym (call-refused t (a .stream .now) (a .at) _ refused))
-
-enum-told : tie.Need-enum-told
-enum-told c = search needs
-
-same-length-4 : tie.Need-same-length-4
-same-length-4 c = search needs
-
-same-length-5 : tie.Need-same-length-5
-same-length-5 c = search needs
-
-same-length-6 : tie.Need-same-length-6
-same-length-6 c = search needs
 
 returns-2 : tie.Need-returns-2
 returns-2 c =
@@ -69,15 +39,6 @@ obey-command-requires c κs =
     let passed = check-passed _ _ (p .check-call .ensures) (c .before .before .before .before .enum-told .given .1) in
     (passed, omega (arith, call-passed t (a .stream .now) (a .at) passed .at-inside, c .before .before .before .if1 .left))
 
-same-length-7 : tie.Need-same-length-7
-same-length-7 c = search needs
-
-same-length-8 : tie.Need-same-length-8
-same-length-8 c = search needs
-
-same-length-9 : tie.Need-same-length-9
-same-length-9 c = search needs
-
 returns-3 : tie.Need-returns-3
 returns-3 c =
     let o = c .before .before .before .before .before .before in
@@ -92,20 +53,20 @@ pub obey-spec : {M : Type 1} → statement M
 obey-spec =
     tie.close
     (tie.spec
-    check-call-requires
-    enum-known-refusal
-    refuse-requires
-    same-length
-    same-length-2
-    same-length-3
+    (λ c κs. search needs)
+    (λ c. search needs)
+    (λ c κs. search needs)
+    (λ c. search needs)
+    (λ c. search needs)
+    (λ c. search needs)
     returns
-    enum-told
-    same-length-4
-    same-length-5
-    same-length-6
+    (λ c. search needs)
+    (λ c. search needs)
+    (λ c. search needs)
+    (λ c. search needs)
     returns-2
     obey-command-requires
-    same-length-7
-    same-length-8
-    same-length-9
+    (λ c. search needs)
+    (λ c. search needs)
+    (λ c. search needs)
     returns-3)

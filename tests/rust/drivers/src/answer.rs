@@ -91,27 +91,26 @@ pub fn compare(random: &mut Random, grid: &Grid, verdict: &Verdict) -> Result<()
     check("the second answer", &chains, bytes, |a, b| a == b, |a, b| a == b)
 }
 
-/// The exports over a list of poses: its average, its product, and the inverse of each, with the lengths and the room as they come.
+/// What the exports, and those of the probe, make of a list of poses: the average of its whole poses, its product, and the inverse of each,
+/// these two with the lengths and the room as they come.
 pub fn compare_list(random: &mut Random, poses: &[f64], room: usize) -> Result<(), String> {
-    let mut mean = Lent::new(room, || guard(random));
-    let part = mean.part();
-    let reply = unsafe { placer::ffi::placer_average(poses.as_ptr(), poses.len(), part.as_mut_ptr(), part.len()) };
-    let expected = average(poses, room);
-    check_list("average", reply, mean, expected.as_ref().map(|p| &p[..]).map_err(|&e| e))?;
-
     let whole = poses.len() % POSE_FLOATS == 0;
     let list: Vec<Pose> = poses.chunks_exact(POSE_FLOATS).map(|p| p.try_into().unwrap()).collect();
 
+    let mut mean = Lent::new(POSE_FLOATS, || guard(random));
+    let seven = mean.part().first_chunk_mut().expect("seven doubles");
+    let reply = unsafe { placer::ffi::rig_average_isometries(list.as_ptr(), list.len(), seven) };
+    let expected = average(&list);
+    check_list("average", reply, mean, expected.as_ref().map(|p| &p[..]).map_err(|&e| e))?;
+
     let mut product = Lent::new(room, || guard(random));
-    let part = product.part();
-    let reply = unsafe { placer::ffi::placer_product(poses.as_ptr(), poses.len(), part.as_mut_ptr(), part.len()) };
+    let reply = probe::product(poses, product.part());
     let all = list.iter().fold(vision_calibration_core::Iso3::identity(), |all, &p| all * iso(p));
     let all = flat(&all);
     check_list("product", reply, product, if whole && room >= POSE_FLOATS { Ok(&all) } else { Err((5, 0)) })?;
 
     let mut inverses = Lent::new(room, || guard(random));
-    let part = inverses.part();
-    let reply = unsafe { placer::ffi::placer_inverses(poses.as_ptr(), poses.len(), part.as_mut_ptr(), part.len()) };
+    let reply = probe::inverses(poses, inverses.part());
     let each: Vec<f64> = list.iter().flat_map(|&p| flat(&iso(p).inverse())).collect();
     check_list("inverses", reply, inverses, if whole && room >= poses.len() { Ok(&each) } else { Err((5, 0)) })
 }

@@ -23,6 +23,15 @@ pub fn flat(p: &Iso3) -> Pose {
     [t.x, t.y, t.z, q.x, q.y, q.z, q.w]
 }
 
+/// The bits of a double, all NaNs as one. Told by the bits: of a choice between a NaN and a root by `is_nan`, LLVM keeps the root, whose
+/// NaN has other bits.
+pub fn bits(x: f64) -> u64 {
+    match x.to_bits() {
+        nan if nan & !(1 << 63) > 0x7ff0_0000_0000_0000 => 0x7ff8_0000_0000_0000,
+        bits => bits,
+    }
+}
+
 fn refused(number: u32, detail: usize) -> Verdict {
     Verdict::Refused { number, detail: detail as u32 }
 }
@@ -158,23 +167,19 @@ pub fn ties(grid: &Grid) -> usize {
 }
 
 /// The Rust's average of a list, as the export would put it.
-pub fn average(poses: &[f64], room: usize) -> Result<Pose, (u32, u32)> {
+pub fn average(poses: &[Pose]) -> Result<Pose, (u32, u32)> {
     if poses.is_empty() {
         return match average_isometries(&[]) {
             Err(Error::InsufficientData { .. }) => Err((1, 0)),
             other => panic!("an empty list averaged to {other:?}"),
         };
     }
-    if poses.len() > POSE_FLOATS * MAX_VIEWS {
+    if poses.len() > MAX_VIEWS {
         return Err((2, 0));
     }
-    if poses.len() % POSE_FLOATS != 0 || room < POSE_FLOATS {
-        return Err((5, 0));
-    }
-    let list: Vec<Pose> = poses.chunks(POSE_FLOATS).map(|p| p.try_into().unwrap()).collect();
-    if let Some(lowest) = list.iter().position(|p| p.iter().any(|x| !x.is_finite())) {
+    if let Some(lowest) = poses.iter().position(|p| p.iter().any(|x| !x.is_finite())) {
         return Err((7, lowest as u32));
     }
-    let isos: Vec<Iso3> = list.into_iter().map(iso).collect();
+    let isos: Vec<Iso3> = poses.iter().copied().map(iso).collect();
     Ok(flat(&average_isometries(&isos).expect("a list that is not empty has an average")))
 }

@@ -42,6 +42,12 @@ impl State {
         self.record[camera] >> view & 1 == 1
     }
 
+    /// Where the poses that are held begin in the buffer.
+    pub fn held_starts(&self) -> Vec<usize> {
+        let cells = (0..MAX_VIEWS).flat_map(|view| (0..MAX_CAMERAS).map(move |camera| (view, camera)));
+        cells.filter(|&(view, camera)| self.holds(view, camera)).map(|(view, camera)| cell_start(view, camera)).collect()
+    }
+
     /// Whether accepted commands can leave the record.
     fn is_possible(&self) -> bool {
         if self.record.len() != RECORD_WORDS {
@@ -197,18 +203,65 @@ pub fn library(state: &mut State, stream: &[u8], at: usize) -> Answer {
     Answer { code, next }
 }
 
-/// The first place at which two states differ, NaNs being one.
-pub fn difference(ours: &State, expected: &State) -> Option<String> {
+/// How many floats of the first answer a call wrote, in the state that it left: none unless it solved.
+pub fn written(state: &State, answer: Answer) -> usize {
+    if answer.code == SOLVED {
+        POSE_FLOATS * (state.cameras() + state.views())
+    } else {
+        0
+    }
+}
+
+/// The first place at which what a call left differs from what it had to leave. Of the first answer's floats that the call wrote, a NaN
+/// may be any NaN; all else is compared bit by bit, and so is everything where the call wrote nothing, as a refusal and the end do.
+pub fn difference(ours: &State, expected: &State, written: usize) -> Option<String> {
     if ours.record != expected.record {
         return Some(format!("the record is {:x?}, and {:x?} was expected", ours.record, expected.record));
     }
-    let floats = |what: &str, a: &[f64], b: &[f64]| {
-        let at = (0..a.len()).find(|&i| a[i].to_bits() != b[i].to_bits() && !(a[i].is_nan() && b[i].is_nan()))?;
-        Some(format!("{what}[{at}] is {:?}, and {:?} was expected", a[at], b[at]))
+    let at = |what: &str, place: usize, a: &[f64], b: &[f64]| {
+        Some(format!("{what}[{place}] has the bits {:x}, and {:x} was expected", a[place].to_bits(), b[place].to_bits()))
     };
-    floats("the buffer", &ours.buffer, &expected.buffer)
-        .or_else(|| floats("the first answer", &ours.transforms, &expected.transforms))
+    let floats = |what: &str, a: &[f64], b: &[f64], written: usize| {
+        if let Some(place) = (0..written).find(|&i| a[i].to_bits() != b[i].to_bits() && !(a[i].is_nan() && b[i].is_nan())) {
+            return at(what, place, a, b);
+        }
+        // All of the rest at once, which is much faster: where it differs is only looked for if it does.
+        let differs = a[written..].iter().zip(&b[written..]).fold(0, |bits, (x, y)| bits | (x.to_bits() ^ y.to_bits())) != 0;
+        if differs || a.len() != b.len() {
+            let place = (written..a.len().min(b.len())).find(|&i| a[i].to_bits() != b[i].to_bits())?;
+            return at(what, place, a, b);
+        }
+        None
+    };
+    floats("the buffer", &ours.buffer, &expected.buffer, 0)
+        .or_else(|| floats("the first answer", &ours.transforms, &expected.transforms, written))
         .or_else(|| (ours.chains != expected.chains).then(|| format!("the second answer is {:?}, and {:?} was expected", ours.chains, expected.chains)))
+}
+
+/// Which NaN was written is the library's choice: it then stands in the expected answer too, so that the next call's bits can be told.
+pub fn take_nans(ours: &State, expected: &mut State, written: usize) {
+    expected.transforms[..written].copy_from_slice(&ours.transforms[..written]);
+}
+
+// ---- numbers
+
+/// A NaN of any bits: of either sign, signalling or quiet, with any payload.
+pub fn any_nan(random: &mut Random) -> f64 {
+    nan_of(random.bits())
+}
+
+fn nan_of(bits: u64) -> f64 {
+    let nan = bits | f64::INFINITY.to_bits();
+    f64::from_bits(if nan << 12 == 0 { nan | 1 } else { nan })
+}
+
+/// Memory of any bits, of which so many fourths, about, are NaNs.
+pub fn fill(random: &mut Random, floats: &mut Vec<f64>, length: usize, fourths_nan: u64) {
+    floats.clear();
+    floats.extend((0..length).map(|_| {
+        let bits = random.bits();
+        if bits & 3 < fourths_nan { nan_of(bits) } else { f64::from_bits(bits) }
+    }));
 }
 
 // ---- streams

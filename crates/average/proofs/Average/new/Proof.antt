@@ -4,15 +4,9 @@ use Rattle.average.specs.Average.{taken}
 use Rattle.average.proofs.Average.new.Statement.{statement}
 use Rattle.average.proofs.Average.new.Tie as tie
 
-identity-requires : tie.Need-identity-requires
-identity-requires c κs = search needs
-
-zeros-requires : tie.Need-zeros-requires
-zeros-requires c κs = search needs
-
 returns : tie.Need-returns
 unfolding taken
 returns c = simp (c .zeros .ensures, c .before .identity .ensures)
 
 pub new-spec : {M : Type 1} → statement M
-new-spec = tie.close (tie.spec identity-requires zeros-requires returns)
+new-spec = tie.close (tie.spec (λ c κs. search needs) (λ c κs. search needs) returns)

@@ -6,12 +6,9 @@ use Rattle.command.proofs.Patterns.{finite-pattern}
 use Rattle.command.proofs.bytes.is_finite_at.Statement.{statement}
 use Rattle.command.proofs.bytes.is_finite_at.Tie as tie
 
-read-word-requires : tie.Need-read-word-requires
-read-word-requires c κs = search needs
-
 returns : tie.Need-returns
 unfolding doubleAt
 returns c = rw (c .read-word .ensures) (sym (finite-pattern _))
 
 pub is-finite-at-spec : {M : Type 1} → statement M
-is-finite-at-spec = tie.close (tie.spec read-word-requires returns)
+is-finite-at-spec = tie.close (tie.spec (λ c κs. search needs) returns)

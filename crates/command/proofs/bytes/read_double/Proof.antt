@@ -5,9 +5,6 @@ use Rattle.command.proofs.Patterns.{finite-not-nan}
 use Rattle.command.proofs.bytes.read_double.Statement.{statement}
 use Rattle.command.proofs.bytes.read_double.Tie as tie
 
-read-word-requires : tie.Need-read-word-requires
-read-word-requires c κs = search needs
-
 float-from-bits-result : tie.Need-float-from-bits-result
 unfolding doubleAt
 float-from-bits-result c = rw (c .read-word .ensures) (finite-not-nan _ (c .before .before .pre .1))
@@ -17,4 +14,4 @@ unfolding doubleAt
 returns c = rw (c .read-word .ensures)
 
 pub read-double-spec : {M : Type 1} → statement M
-read-double-spec = tie.close (tie.spec read-word-requires float-from-bits-result returns)
+read-double-spec = tie.close (tie.spec (λ c κs. search needs) float-from-bits-result returns)

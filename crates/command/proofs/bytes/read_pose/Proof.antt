@@ -9,43 +9,25 @@ read-double-requires : tie.Need-read-double-requires
 unfolding offeredPose
 read-double-requires c κs = (search needs, finite-translation _ (c .before .pre .1) .finite-x)
 
-add-read-double : tie.Need-add-read-double
-add-read-double c = search needs
-
 read-double-requires-2 : tie.Need-read-double-requires-2
 unfolding offeredPose
 read-double-requires-2 c κs = (search needs, finite-translation _ (c .before .before .pre .1) .finite-y)
-
-add-read-double-2 : tie.Need-add-read-double-2
-add-read-double-2 c = search needs
 
 read-double-requires-3 : tie.Need-read-double-requires-3
 unfolding offeredPose
 read-double-requires-3 c κs = (search needs, finite-translation _ (c .before .before .before .pre .1) .finite-z)
 
-add-read-double-3 : tie.Need-add-read-double-3
-add-read-double-3 c = search needs
-
 read-double-requires-4 : tie.Need-read-double-requires-4
 unfolding offeredPose
 read-double-requires-4 c κs = (search needs, finite-rotation _ (c .before .before .before .before .pre .1) .finite-i)
-
-add-read-double-4 : tie.Need-add-read-double-4
-add-read-double-4 c = search needs
 
 read-double-requires-5 : tie.Need-read-double-requires-5
 unfolding offeredPose
 read-double-requires-5 c κs = (search needs, finite-rotation _ (c .before .before .before .before .before .pre .1) .finite-j)
 
-add-read-double-5 : tie.Need-add-read-double-5
-add-read-double-5 c = search needs
-
 read-double-requires-6 : tie.Need-read-double-requires-6
 unfolding offeredPose
 read-double-requires-6 c κs = (search needs, finite-rotation _ (c .before .before .before .before .before .before .pre .1) .finite-k)
-
-add-read-double-6 : tie.Need-add-read-double-6
-add-read-double-6 c = search needs
 
 read-double-requires-7 : tie.Need-read-double-requires-7
 unfolding offeredPose
@@ -70,16 +52,16 @@ read-pose-spec =
     tie.close
     (tie.spec
     read-double-requires
-    add-read-double
+    (λ c. search needs)
     read-double-requires-2
-    add-read-double-2
+    (λ c. search needs)
     read-double-requires-3
-    add-read-double-3
+    (λ c. search needs)
     read-double-requires-4
-    add-read-double-4
+    (λ c. search needs)
     read-double-requires-5
-    add-read-double-5
+    (λ c. search needs)
     read-double-requires-6
-    add-read-double-6
+    (λ c. search needs)
     read-double-requires-7
     returns)

@@ -7,7 +7,7 @@ use borrow.Author.Needs.{needs}
 use lib.ListN.{length, getD, drop}
 use lib.Ieee.{Float}
 use Rattle.arithmetic.specs.Pose.{flat}
-use Rattle.extrinsics.specs.Estimate.{gather}
+use Rattle.lists.specs.Lists.{gather}
 use Rattle.extrinsics.specs.Placed.{nowhere}
 use Rattle.extrinsics.proofs.Filling.{put-tail, fill-next, length-filled}
 use Rattle.extrinsics.proofs.answer.write_cameras.Statement.{statement}
@@ -23,36 +23,6 @@ loop-holds : tie.Need-loop-holds Inv-loop μ-loop
 unfolding gather
 loop-holds c = (search needs, refl, refl)
 
-mul-at : tie.Need-mul-at Inv-loop μ-loop
-mul-at c = search needs
-
-mul-pose : tie.Need-mul-pose Inv-loop μ-loop
-mul-pose c = search needs
-
-array-copy-out-pose : tie.Need-array-copy-out-pose Inv-loop μ-loop
-array-copy-out-pose c = search needs
-
-mul-write : tie.Need-mul-write Inv-loop μ-loop
-mul-write c = search needs
-
-sub-write : tie.Need-sub-write Inv-loop μ-loop
-sub-write c = search needs
-
-part-write-start : tie.Need-part-write-start Inv-loop μ-loop
-part-write-start c = search needs
-
-part-write-end : tie.Need-part-write-end Inv-loop μ-loop
-part-write-end c = search needs
-
-write-requires : tie.Need-write-requires Inv-loop μ-loop
-write-requires c κs = search needs
-
-add-camera : tie.Need-add-camera Inv-loop μ-loop
-add-camera c = search needs
-
-loop-less : tie.Need-loop-less Inv-loop μ-loop
-loop-less c = search needs
-
 loop-again : tie.Need-loop-again Inv-loop μ-loop
 loop-again c =
     let l = c .before .before .before .before .before .before in
@@ -63,9 +33,6 @@ loop-again c =
     put-tail (l .loop .answer) (c .before .before .write .last .1 .0) (block camera) (7 * camera) 7 (omega arith) (c .before .before .write .ensures)
     ∙ fill-next block 7 (λ i. refl) (l .loop .answer) (a .answer .now) camera (l .loop .inv .2) in
     (omega arith, ap length filled ∙ length-filled block 7 (λ i. refl) (a .answer .now) (camera + 1) (omega arith), filled)
-
-same-length : tie.Need-same-length Inv-loop μ-loop
-same-length c = search needs
 
 returns : tie.Need-returns Inv-loop μ-loop
 returns c =
@@ -80,16 +47,16 @@ write-cameras-spec =
     Inv-loop
     μ-loop
     loop-holds
-    mul-at
-    mul-pose
-    array-copy-out-pose
-    mul-write
-    sub-write
-    part-write-start
-    part-write-end
-    write-requires
-    add-camera
-    loop-less
+    (λ c. search needs)
+    (λ c. search needs)
+    (λ c. search needs)
+    (λ c. search needs)
+    (λ c. search needs)
+    (λ c. search needs)
+    (λ c. search needs)
+    (λ c κs. search needs)
+    (λ c. search needs)
+    (λ c. search needs)
     loop-again
-    same-length
+    (λ c. search needs)
     returns)

@@ -1,5 +1,5 @@
 -- `write_chains` meets its contract: the answer is filled from the front, two bytes at a time (`Filling`). Assumes nothing.
-use Prim.Native.Nat.{ℕ, _+_, _-_, _*_, _≤_}
+use Prim.Native.Nat.{ℕ, _+_, _-_, _≤_}
 use native.Mathlib.Omega.{arith}
 use native.Mathlib.Numerals.{add-one}
 use mathlib.Core.Path.{_≡_, refl, ap, _∙_}
@@ -7,13 +7,14 @@ use mathlib.Core.List.{List, [], _∷_, _++_, append-assoc}
 use borrow.Author.Needs.{needs}
 use lib.Seq.{sets-eq}
 use lib.ListN.{length, getD, set, take, drop, length-set}
-use Rattle.extrinsics.specs.Estimate.{gather}
+use Rattle.limits.specs.Limits.{chainBytes, parentPlace, secondNeeds}
+use Rattle.lists.specs.Lists.{gather}
 use Rattle.extrinsics.proofs.Filling.{fill-next, length-filled}
 use Rattle.extrinsics.proofs.answer.write_chains.Statement.{statement}
 use Rattle.extrinsics.proofs.answer.write_chains.Tie as tie
 
 abbrev Inv-loop : tie.InvT-loop
-Inv-loop cameras answer₀ tree camera₀ answer camera = (camera ≤ cameras) × (length answer ≡ length answer₀) × (answer ≡ gather camera (λ c. getD (tree .parent) c 0 ∷ getD (tree .links) c 0 ∷ []) ++ drop (2 * camera) answer₀)
+Inv-loop cameras answer₀ tree camera₀ answer camera = (camera ≤ cameras) × (length answer ≡ length answer₀) × (answer ≡ gather camera (λ c. getD (tree .parent) c 0 ∷ getD (tree .links) c 0 ∷ []) ++ drop (secondNeeds camera) answer₀)
 
 abbrev μ-loop : tie.MeasureT-loop
 μ-loop cameras answer₀ tree camera₀ answer camera = cameras - camera
@@ -22,32 +23,8 @@ loop-holds : tie.Need-loop-holds Inv-loop μ-loop
 unfolding gather
 loop-holds c = (search needs, refl, refl)
 
-element-copy-out-answer : tie.Need-element-copy-out-answer Inv-loop μ-loop
-element-copy-out-answer c = search needs
-
-mul-answer : tie.Need-mul-answer Inv-loop μ-loop
-mul-answer c = search needs
-
-slice-write-answer : tie.Need-slice-write-answer Inv-loop μ-loop
-slice-write-answer c = search needs
-
-element-copy-out-answer-2 : tie.Need-element-copy-out-answer-2 Inv-loop μ-loop
-element-copy-out-answer-2 c = search needs
-
-mul-answer-2 : tie.Need-mul-answer-2 Inv-loop μ-loop
-mul-answer-2 c = search needs
-
-add-answer : tie.Need-add-answer Inv-loop μ-loop
-add-answer c = search needs
-
 slice-write-answer-2 : tie.Need-slice-write-answer-2 Inv-loop μ-loop
 slice-write-answer-2 c = simp length-set (omega arith)
-
-add-camera : tie.Need-add-camera Inv-loop μ-loop
-add-camera c = search needs
-
-loop-less : tie.Need-loop-less Inv-loop μ-loop
-loop-less c = search needs
 
 loop-again : tie.Need-loop-again Inv-loop μ-loop
 loop-again c =
@@ -56,14 +33,11 @@ loop-again c =
     let camera = l .loop .camera in
     let block : ℕ → List ℕ = λ i. getD (a .t1 .parent) i 0 ∷ getD (a .t1 .links) i 0 ∷ [] in
     let filled =
-    ap (λ (k : ℕ). set (set (l .loop .answer) (2 * camera) (getD (a .t1 .parent) camera 0)) k (getD (a .t1 .links) camera 0)) (add-one (2 * camera))
-    ∙ sets-eq (block camera) (l .loop .answer) (2 * camera) (omega arith)
-    ∙ append-assoc (take (2 * camera) (l .loop .answer)) (block camera) (drop (2 * camera + 2) (l .loop .answer))
-    ∙ fill-next block 2 (λ i. refl) (l .loop .answer) (a .answer .now) camera (l .loop .inv .2) in
-    (omega arith, ap length filled ∙ length-filled block 2 (λ i. refl) (a .answer .now) (camera + 1) (omega arith), filled)
-
-same-length : tie.Need-same-length Inv-loop μ-loop
-same-length c = search needs
+    ap (λ (k : ℕ). set (set (l .loop .answer) (parentPlace camera) (getD (a .t1 .parent) camera 0)) k (getD (a .t1 .links) camera 0)) (add-one (parentPlace camera))
+    ∙ sets-eq (block camera) (l .loop .answer) (parentPlace camera) (omega arith)
+    ∙ append-assoc (take (parentPlace camera) (l .loop .answer)) (block camera) (drop (parentPlace camera + chainBytes) (l .loop .answer))
+    ∙ fill-next block chainBytes (λ i. refl) (l .loop .answer) (a .answer .now) camera (l .loop .inv .2) in
+    (omega arith, ap length filled ∙ length-filled block chainBytes (λ i. refl) (a .answer .now) (camera + 1) (omega arith), filled)
 
 returns : tie.Need-returns Inv-loop μ-loop
 returns c =
@@ -78,15 +52,15 @@ write-chains-spec =
     Inv-loop
     μ-loop
     loop-holds
-    element-copy-out-answer
-    mul-answer
-    slice-write-answer
-    element-copy-out-answer-2
-    mul-answer-2
-    add-answer
+    (λ c. search needs)
+    (λ c. search needs)
+    (λ c. search needs)
+    (λ c. search needs)
+    (λ c. search needs)
+    (λ c. search needs)
     slice-write-answer-2
-    add-camera
-    loop-less
+    (λ c. search needs)
+    (λ c. search needs)
     loop-again
-    same-length
+    (λ c. search needs)
     returns)

@@ -11,12 +11,13 @@ use borrow.Author.Tests.{eq-eqb, ne-eqb}
 use lib.Dec.{T}
 use lib.Ieee.{Float}
 use lib.Bits.{bitAnd, and-mask}
-use Rattle.chains.specs.Masks.{inMask}
+use Rattle.lists.specs.Masks.{inMask}
 use Rattle.extrinsics.specs.Rig.{rigGrid}
-use Rattle.inputs.specs.Finding.{lowest, foundOf}
+use Rattle.lists.specs.Finding.{lowest}
+use Rattle.inputs.specs.Finding.{foundOf}
 use Rattle.extrinsics.specs.Outcome.{isEmptyView, lowestEmptyView}
 use Rattle.extrinsics.specs.declared.grid.Rig.{Rig}
-use Rattle.inputs.proofs.Lowest.{lowest-none-more, lowest-first, lowest-agree}
+use Rattle.lists.proofs.Lowest.{lowest-none-more, lowest-first, lowest-agree}
 use Rattle.extrinsics.proofs.MaskUnion.{InOneOf}
 use Rattle.extrinsics.proofs.EmptyViews.{isEmptyView-not-inMask}
 use Rattle.extrinsics.proofs.checks.find_empty_view.Statement.{statement}
@@ -44,38 +45,23 @@ bit-set mask v n =
     ap not (eq-eqb (mask / 2 ^ v % 2) 1 (omega arith))
 
 abbrev Inv-loop : tie.InvT-loop
-Inv-loop floats views held view₀ view = (view ≤ views) × (lowest (notIn held) view ≡ none)
+Inv-loop views held view₀ view = (view ≤ views) × (lowest (notIn held) view ≡ none)
 
 abbrev μ-loop : tie.MeasureT-loop
-μ-loop floats views held view₀ view = views - view
-
-held-views-requires : tie.Need-held-views-requires Inv-loop μ-loop
-held-views-requires c κs = search needs
+μ-loop views held view₀ view = views - view
 
 loop-holds : tie.Need-loop-holds Inv-loop μ-loop
 unfolding lowest
 loop-holds c = (omega arith, refl)
-
-shr-if1 : tie.Need-shr-if1 Inv-loop μ-loop
-shr-if1 c = search needs
-
-cast-t10 : tie.Need-cast-t10 Inv-loop μ-loop
-cast-t10 c = search needs
 
 returns : tie.Need-returns Inv-loop μ-loop
 unfolding foundOf
 returns c =
     let l = c .before .before in
     let h = l .before .held-views in
-    let a = l .before .before .before .args in
-    sym (ap foundOf (lowestEmptyView-notIn (a .rig) (a .floats .now) (h .result) (h .ensures)
+    let a = l .before .before .args in
+    λ floats. sym (ap foundOf (lowestEmptyView-notIn (a .rig) floats (h .result) (h .ensures)
     ∙ lowest-first (notIn (h .result)) (l .loop .view) (a .rig .views) (omega arith) (l .loop .inv .1) (bit-clear (h .result) (l .loop .view) (c .if1 .taken))))
-
-add-view : tie.Need-add-view Inv-loop μ-loop
-add-view c = search needs
-
-loop-less : tie.Need-loop-less Inv-loop μ-loop
-loop-less c = search needs
 
 loop-again : tie.Need-loop-again Inv-loop μ-loop
 loop-again c =
@@ -90,9 +76,9 @@ unfolding foundOf
 returns-2 c =
     let l = c .before in
     let h = l .before .held-views in
-    let a = l .before .before .before .args in
+    let a = l .before .before .args in
     let all : l .loop .view ≡ a .rig .views = omega arith in
-    sym (ap foundOf (lowestEmptyView-notIn (a .rig) (a .floats .now) (h .result) (h .ensures) ∙ (rw all at (l .loop .inv .1))))
+    λ floats. sym (ap foundOf (lowestEmptyView-notIn (a .rig) floats (h .result) (h .ensures) ∙ (rw all at (l .loop .inv .1))))
 
 pub find-empty-view-spec : {M : Type 1} → statement M
 find-empty-view-spec =
@@ -100,12 +86,12 @@ find-empty-view-spec =
     (tie.spec
     Inv-loop
     μ-loop
-    held-views-requires
+    (λ c κs. search needs)
     loop-holds
-    shr-if1
-    cast-t10
+    (λ c. search needs)
+    (λ c. search needs)
     returns
-    add-view
-    loop-less
+    (λ c. search needs)
+    (λ c. search needs)
     loop-again
     returns-2)

@@ -11,12 +11,13 @@ use borrow.Author.Needs.{needs}
 use lib.ListN.{getD}
 use lib.Ieee.{Float}
 use Rattle.extrinsics.specs.Rig.{maskedCell, rigCell, rigGrid}
-use Rattle.inputs.specs.Finding.{lowest, foundOf}
+use Rattle.lists.specs.Finding.{lowest}
+use Rattle.inputs.specs.Finding.{foundOf}
 use Rattle.extrinsics.specs.Outcome.{isNotFinite, lowestNotFinite}
 use Rattle.extrinsics.specs.declared.grid.Cell.{Cell}
 use Rattle.extrinsics.specs.declared.grid.Cell.the-variants.{Empty}
 use Rattle.extrinsics.specs.declared.grid.Rig.{Rig}
-use Rattle.inputs.proofs.Lowest.{lowest-none-more, lowest-first}
+use Rattle.lists.proofs.Lowest.{lowest-none-more, lowest-first}
 use Rattle.extrinsics.proofs.ViewCells.{row-inside, cellOf-rigCell, pose-inside, pose-place-lt, cell-place-lt}
 use Rattle.extrinsics.proofs.checks.find_not_finite.Statement.{statement}
 use Rattle.extrinsics.proofs.checks.find_not_finite.Tie as tie
@@ -52,12 +53,6 @@ loop-holds c = (omega arith, rw zero-mul refl)
 loop2-holds : tie.Need-loop2-holds Inv-loop2 μ-loop2 Inv-loop μ-loop
 loop2-holds c = (omega arith, rw add-zero (c .before .loop .inv .1))
 
-mul-read-cell : tie.Need-mul-read-cell Inv-loop2 μ-loop2 Inv-loop μ-loop
-mul-read-cell c = search needs
-
-element-copy-out-read-cell : tie.Need-element-copy-out-read-cell Inv-loop2 μ-loop2 Inv-loop μ-loop
-element-copy-out-read-cell c = search needs
-
 mul-read-cell-2 : tie.Need-mul-read-cell-2 Inv-loop2 μ-loop2 Inv-loop μ-loop
 mul-read-cell-2 c =
     let l = c .before .before .before .before in
@@ -79,9 +74,6 @@ read-cell-requires c κs =
       omega (arith, s .pre .views-fit),
       pose-inside (s .args .t1) (s .args .floats .now) (l .loop .view) (c .before .before .loop2 .camera) (omega arith) (omega arith) (s .pre),
     )
-
-is-not-finite-requires : tie.Need-is-not-finite-requires Inv-loop2 μ-loop2 Inv-loop μ-loop
-is-not-finite-requires c κs = search needs
 
 mul-t19 : tie.Need-mul-t19 Inv-loop2 μ-loop2 Inv-loop μ-loop
 mul-t19 c =
@@ -122,12 +114,6 @@ returns c =
     (lowest-first (notFiniteIn r (a .floats .now)) (l .loop .view * r .cameras + k .loop2 .camera) (r .views * r .cameras)
     (row-inside (l .loop .view) (r .views) (r .cameras) (k .loop2 .camera) (omega arith) (omega arith)) (k .loop2 .inv .1) (read ∙ c .if1 .taken)))
 
-add-camera : tie.Need-add-camera Inv-loop2 μ-loop2 Inv-loop μ-loop
-add-camera c = search needs
-
-loop2-less : tie.Need-loop2-less Inv-loop2 μ-loop2 Inv-loop μ-loop
-loop2-less c = search needs
-
 loop2-again : tie.Need-loop2-again Inv-loop2 μ-loop2 Inv-loop μ-loop
 loop2-again c =
     let k = c .before .before .before .before .before in
@@ -141,12 +127,6 @@ loop2-again c =
       rw (← add-assoc)
           (lowest-none-more (notFiniteIn r (a .floats .now)) (l .loop .view * r .cameras + k .loop2 .camera) (k .loop2 .inv .1) (read ∙ c .if1 .left)),
     )
-
-add-view : tie.Need-add-view Inv-loop2 μ-loop2 Inv-loop μ-loop
-add-view c = search needs
-
-loop-less : tie.Need-loop-less Inv-loop2 μ-loop2 Inv-loop μ-loop
-loop-less c = search needs
 
 loop-again : tie.Need-loop-again Inv-loop2 μ-loop2 Inv-loop μ-loop
 loop-again c =
@@ -173,20 +153,20 @@ find-not-finite-spec =
     μ-loop
     loop-holds
     loop2-holds
-    mul-read-cell
-    element-copy-out-read-cell
+    (λ c. search needs)
+    (λ c. search needs)
     mul-read-cell-2
     add-read-cell
     read-cell-requires
-    is-not-finite-requires
+    (λ c κs. search needs)
     mul-t19
     add-t20
     cast-t21
     returns
-    add-camera
-    loop2-less
+    (λ c. search needs)
+    (λ c. search needs)
     loop2-again
-    add-view
-    loop-less
+    (λ c. search needs)
+    (λ c. search needs)
     loop-again
     returns-2)

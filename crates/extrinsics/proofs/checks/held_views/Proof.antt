@@ -5,7 +5,7 @@ use mathlib.Core.Path.{_≡_}
 use mathlib.Core.Logic.{_↔_}
 use borrow.Author.Needs.{needs}
 use lib.Dec.{T}
-use Rattle.chains.specs.Masks.{inMask}
+use Rattle.lists.specs.Masks.{inMask}
 use Rattle.extrinsics.proofs.MaskUnion.{InOneOf, union-none, union-more}
 use Rattle.extrinsics.proofs.checks.held_views.Statement.{statement}
 use Rattle.extrinsics.proofs.checks.held_views.Tie as tie
@@ -19,18 +19,6 @@ abbrev μ-loop : tie.MeasureT-loop
 
 loop-holds : tie.Need-loop-holds Inv-loop μ-loop
 loop-holds c = (omega arith, union-none (c .args .t1 .masks))
-
-mul-held : tie.Need-mul-held Inv-loop μ-loop
-mul-held c = search needs
-
-element-copy-out-held : tie.Need-element-copy-out-held Inv-loop μ-loop
-element-copy-out-held c = search needs
-
-add-camera : tie.Need-add-camera Inv-loop μ-loop
-add-camera c = search needs
-
-loop-less : tie.Need-loop-less Inv-loop μ-loop
-loop-less c = search needs
 
 loop-again : tie.Need-loop-again Inv-loop μ-loop
 loop-again c =
@@ -49,9 +37,9 @@ held-views-spec =
     Inv-loop
     μ-loop
     loop-holds
-    mul-held
-    element-copy-out-held
-    add-camera
-    loop-less
+    (λ c. search needs)
+    (λ c. search needs)
+    (λ c. search needs)
+    (λ c. search needs)
     loop-again
     returns)

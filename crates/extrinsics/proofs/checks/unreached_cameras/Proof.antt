@@ -10,14 +10,14 @@ use borrow.Author.Tests.{eq-eqb, ne-eqb}
 use lib.ListN.{getD}
 use lib.Dec.{eqb}
 use lib.Pow.{pow-mono}
-use Rattle.chains.specs.Limits.{notPlacedByte}
+use Rattle.limits.specs.Limits.{notPlacedByte}
 use Rattle.extrinsics.specs.Grid.{spots, hasPlace}
 use Rattle.chains.specs.Trees.{treeOf}
 use Rattle.extrinsics.specs.Rig.{rigGrid}
-use Rattle.inputs.specs.Finding.{powerSum}
+use Rattle.lists.specs.Finding.{powerSum}
 use Rattle.extrinsics.specs.Outcome.{unreachedSet}
 use Rattle.chains.specs.declared.Tree.{Tree}
-use Rattle.inputs.proofs.PowerSums.{powerSum-lt, powerSum-more, powerSum-same, powerSum-agree, one-shl}
+use Rattle.lists.proofs.PowerSums.{powerSum-lt, powerSum-more, powerSum-same, powerSum-agree, one-shl}
 use Rattle.extrinsics.proofs.PlaceBytes.{no-place-byte}
 use Rattle.extrinsics.proofs.checks.unreached_cameras.Statement.{statement}
 use Rattle.extrinsics.proofs.checks.unreached_cameras.Tie as tie
@@ -26,24 +26,15 @@ abbrev noPlace : Tree → ℕ → Bool
 noPlace tree c = eqb (getD (tree .links) c 0) notPlacedByte
 
 abbrev Inv-loop : tie.InvT-loop
-Inv-loop floats tree cameras set₀ camera₀ set camera =
+Inv-loop tree cameras set₀ camera₀ set camera =
     (camera ≤ cameras) × (set ≡ powerSum (noPlace tree) camera)
 
 abbrev μ-loop : tie.MeasureT-loop
-μ-loop floats tree cameras set₀ camera₀ set camera = cameras - camera
+μ-loop tree cameras set₀ camera₀ set camera = cameras - camera
 
 loop-holds : tie.Need-loop-holds Inv-loop μ-loop
 unfolding powerSum
 loop-holds c = (omega arith, refl)
-
-element-copy-out-if1 : tie.Need-element-copy-out-if1 Inv-loop μ-loop
-element-copy-out-if1 c = search needs
-
-cast-set : tie.Need-cast-set Inv-loop μ-loop
-cast-set c = search needs
-
-shl-set : tie.Need-shl-set Inv-loop μ-loop
-shl-set c = search needs
 
 add-set : tie.Need-add-set Inv-loop μ-loop
 add-set c =
@@ -51,20 +42,14 @@ add-set c =
     omega (
       arith,
       one-shl (l .loop .camera) (omega arith),
-      powerSum-lt (noPlace (l .before .args .t3)) (l .loop .camera),
+      powerSum-lt (noPlace (l .before .args .t2)) (l .loop .camera),
       pow-mono {i = l .loop .camera} {j = 16} (omega arith),
     )
-
-add-camera : tie.Need-add-camera Inv-loop μ-loop
-add-camera c = search needs
-
-loop-less : tie.Need-loop-less Inv-loop μ-loop
-loop-less c = search needs
 
 loop-again : tie.Need-loop-again Inv-loop μ-loop
 loop-again c =
     let l = c .before .before .before in
-    let test = noPlace (l .before .args .t3) in (
+    let test = noPlace (l .before .args .t2) in (
       omega arith,
       ⊎-elim
           (λ w. omega (arith, powerSum-more test (l .loop .camera) (eq-eqb _ _ (w .0 .taken)), one-shl (l .loop .camera) (omega arith)))
@@ -75,10 +60,11 @@ returns : tie.Need-returns Inv-loop μ-loop
 unfolding unreachedSet rigGrid
 returns c =
     let a = c .before .before .args in
-    let g = rigGrid (a .rig) (a .floats .now) in
     let all : c .before .loop .camera ≡ a .rig .cameras = omega arith in
+    λ floats of-grid.
+    let g = rigGrid (a .rig) floats in
     c .before .loop .inv .1
-    ∙ ap₂ (λ (t : Tree) (n : ℕ). powerSum (noPlace t) n) (c .before .before .pre .1) all
+    ∙ ap₂ (λ (t : Tree) (n : ℕ). powerSum (noPlace t) n) of-grid all
     ∙ powerSum-agree (noPlace (treeOf (spots g))) (λ i. not (hasPlace g i)) (a .rig .cameras) (λ i l. no-place-byte g (omega arith) i l)
 
 pub unreached-cameras-spec : {M : Type 1} → statement M
@@ -88,11 +74,11 @@ unreached-cameras-spec =
     Inv-loop
     μ-loop
     loop-holds
-    element-copy-out-if1
-    cast-set
-    shl-set
+    (λ c. search needs)
+    (λ c. search needs)
+    (λ c. search needs)
     add-set
-    add-camera
-    loop-less
+    (λ c. search needs)
+    (λ c. search needs)
     loop-again
     returns)

@@ -4,19 +4,10 @@ use mathlib.Core.Path.{sym, _∙_}
 use borrow.Author.Tests.{eq-eqb, ne-eqb}
 use borrow.Author.Needs.{needs}
 use lib.Bits.{and-mask}
-use Rattle.chains.specs.Masks.{inMask}
+use Rattle.lists.specs.Masks.{inMask}
 use Rattle.extrinsics.specs.Rig.{maskedCell}
 use Rattle.extrinsics.proofs.grid.read_cell.Statement.{statement}
 use Rattle.extrinsics.proofs.grid.read_cell.Tie as tie
-
-shr-if1 : tie.Need-shr-if1
-shr-if1 c = search needs
-
-mul-read : tie.Need-mul-read
-mul-read c = search needs
-
-read-requires : tie.Need-read-requires
-read-requires c κs = search needs
 
 returns : tie.Need-returns
 unfolding maskedCell inMask
@@ -31,4 +22,4 @@ returns-2 c =
     simp (ne-eqb _ _ (λ e. c .if1 .left (and-mask (a .mask / 2 ^ a .view) 1 ∙ e)))
 
 pub read-cell-spec : {M : Type 1} → statement M
-read-cell-spec = tie.close (tie.spec shr-if1 mul-read read-requires returns returns-2)
+read-cell-spec = tie.close (tie.spec (λ c. search needs) (λ c. search needs) (λ c κs. search needs) returns returns-2)

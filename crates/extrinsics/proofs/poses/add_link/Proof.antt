@@ -4,27 +4,6 @@ use Rattle.extrinsics.specs.Estimate.{linkCandidate}
 use Rattle.extrinsics.proofs.poses.add_link.Statement.{statement}
 use Rattle.extrinsics.proofs.poses.add_link.Tie as tie
 
-enum-told : tie.Need-enum-told
-enum-told c = search needs
-
-enum-known-of-parent : tie.Need-enum-known-of-parent
-enum-known-of-parent c = search needs
-
-enum-told-2 : tie.Need-enum-told-2
-enum-told-2 c = search needs
-
-enum-known-of-camera : tie.Need-enum-known-of-camera
-enum-known-of-camera c = search needs
-
-inverse-requires : tie.Need-inverse-requires
-inverse-requires c κs = search needs
-
-product-requires : tie.Need-product-requires
-product-requires c κs = search needs
-
-add-requires : tie.Need-add-requires
-add-requires c κs = search needs
-
 -- The parent's cell is empty.
 returns : tie.Need-returns
 unfolding linkCandidate
@@ -52,13 +31,13 @@ pub add-link-spec : {M : Type 1} → statement M
 add-link-spec =
     tie.close
     (tie.spec
-    enum-told
-    enum-known-of-parent
-    enum-told-2
-    enum-known-of-camera
-    inverse-requires
-    product-requires
-    add-requires
+    (λ c. search needs)
+    (λ c. search needs)
+    (λ c. search needs)
+    (λ c. search needs)
+    (λ c κs. search needs)
+    (λ c κs. search needs)
+    (λ c κs. search needs)
     returns
     returns-2
     returns-3)

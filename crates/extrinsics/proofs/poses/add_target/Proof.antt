@@ -4,18 +4,6 @@ use Rattle.extrinsics.specs.Estimate.{targetCandidate}
 use Rattle.extrinsics.proofs.poses.add_target.Statement.{statement}
 use Rattle.extrinsics.proofs.poses.add_target.Tie as tie
 
-enum-told : tie.Need-enum-told
-enum-told c = search needs
-
-enum-known-of-camera : tie.Need-enum-known-of-camera
-enum-known-of-camera c = search needs
-
-product-requires : tie.Need-product-requires
-product-requires c κs = search needs
-
-add-requires : tie.Need-add-requires
-add-requires c κs = search needs
-
 -- The cell is empty.
 returns : tie.Need-returns
 unfolding targetCandidate
@@ -30,4 +18,4 @@ returns-2 c =
 pub add-target-spec : {M : Type 1} → statement M
 add-target-spec =
     tie.close
-    (tie.spec enum-told enum-known-of-camera product-requires add-requires returns returns-2)
+    (tie.spec (λ c. search needs) (λ c. search needs) (λ c κs. search needs) (λ c κs. search needs) returns returns-2)

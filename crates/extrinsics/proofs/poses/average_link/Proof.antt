@@ -6,7 +6,8 @@ use mathlib.Core.Path.{_≡_}
 use borrow.Author.Needs.{needs}
 use Rattle.average.specs.Average.{taken}
 use Rattle.average.proofs.Averaging.{mean-taken}
-use Rattle.extrinsics.specs.Estimate.{gather, linkCandidate, averagedLink}
+use Rattle.lists.specs.Lists.{gather}
+use Rattle.extrinsics.specs.Estimate.{linkCandidate, averagedLink}
 use Rattle.extrinsics.specs.Rig.{maskedCell, rigCell}
 use Rattle.extrinsics.proofs.Gathering.{taken-gather-next, length-linkCandidate-le}
 use Rattle.extrinsics.proofs.ViewCells.{pose-inside}
@@ -21,21 +22,6 @@ Inv-loop floats parent camera stride views parent-mask camera-mask sum₀ view�
 
 abbrev μ-loop : tie.MeasureT-loop
 μ-loop floats parent camera stride views parent-mask camera-mask sum₀ view₀ sum view = views - view
-
-mul-parent-mask : tie.Need-mul-parent-mask Inv-loop μ-loop
-mul-parent-mask c = search needs
-
-element-copy-out-parent-mask : tie.Need-element-copy-out-parent-mask Inv-loop μ-loop
-element-copy-out-parent-mask c = search needs
-
-mul-camera-mask : tie.Need-mul-camera-mask Inv-loop μ-loop
-mul-camera-mask c = search needs
-
-element-copy-out-camera-mask : tie.Need-element-copy-out-camera-mask Inv-loop μ-loop
-element-copy-out-camera-mask c = search needs
-
-new-requires : tie.Need-new-requires Inv-loop μ-loop
-new-requires c κs = search needs
 
 loop-holds : tie.Need-loop-holds Inv-loop μ-loop
 unfolding gather
@@ -66,15 +52,6 @@ read-cell-requires-2 c κs =
     let s = c .before .before .before .before .before .before .before in
     omega (arith, pose-inside _ _ (c .before .before .loop .view) (s .args .camera) (omega arith) (s .pre .2) (s .pre .0))
 
-add-link-requires : tie.Need-add-link-requires Inv-loop μ-loop
-add-link-requires c κs = search needs
-
-add-view : tie.Need-add-view Inv-loop μ-loop
-add-view c = search needs
-
-loop-less : tie.Need-loop-less Inv-loop μ-loop
-loop-less c = search needs
-
 loop-again : tie.Need-loop-again Inv-loop μ-loop
 loop-again c =
     let l = c .before .before .before .before in (
@@ -82,9 +59,6 @@ loop-again c =
       simp (c .add-link .ensures, c .before .read-cell2 .ensures, c .before .before .read-cell .ensures, l .loop .inv .1)
           (taken-gather-next (l .loop .view) _ (λ v. length-linkCandidate-le _ _) (omega arith)),
     )
-
-mean-requires : tie.Need-mean-requires Inv-loop μ-loop
-mean-requires c κs = search needs
 
 returns : tie.Need-returns Inv-loop μ-loop
 unfolding averagedLink rigCell
@@ -106,20 +80,20 @@ average-link-spec =
     (tie.spec
     Inv-loop
     μ-loop
-    mul-parent-mask
-    element-copy-out-parent-mask
-    mul-camera-mask
-    element-copy-out-camera-mask
-    new-requires
+    (λ c. search needs)
+    (λ c. search needs)
+    (λ c. search needs)
+    (λ c. search needs)
+    (λ c κs. search needs)
     loop-holds
     mul-row
     add-read-cell
     read-cell-requires
     add-read-cell-2
     read-cell-requires-2
-    add-link-requires
-    add-view
-    loop-less
+    (λ c κs. search needs)
+    (λ c. search needs)
+    (λ c. search needs)
     loop-again
-    mean-requires
+    (λ c κs. search needs)
     returns)

@@ -21,9 +21,6 @@ put-small-requires-3 c κs = omega arith
 put-pose-requires : tie.Need-put-pose-requires
 put-pose-requires c κs = omega arith
 
-same-length : tie.Need-same-length
-same-length c = search needs
-
 returns : tie.Need-returns
 unfolding cameraLine
 returns c =
@@ -45,5 +42,5 @@ put-camera-spec =
     put-small-requires-2
     put-small-requires-3
     put-pose-requires
-    same-length
+    (λ c. search needs)
     returns)

@@ -6,9 +6,6 @@ use Rattle.listing.proofs.Writing.{put-then}
 use Rattle.listing.proofs.lines.put_ok.Statement.{statement}
 use Rattle.listing.proofs.lines.put_ok.Tie as tie
 
-slice-aggregate-put-bytes : tie.Need-slice-aggregate-put-bytes
-slice-aggregate-put-bytes c = search needs
-
 put-bytes-requires : tie.Need-put-bytes-requires
 put-bytes-requires c κs = omega arith
 
@@ -20,9 +17,6 @@ put-small-requires-2 c κs = omega arith
 
 put-byte-requires : tie.Need-put-byte-requires
 put-byte-requires c κs = omega arith
-
-same-length : tie.Need-same-length
-same-length c = search needs
 
 returns : tie.Need-returns
 unfolding okLine
@@ -39,10 +33,10 @@ pub put-ok-spec : {M : Type 1} → statement M
 put-ok-spec =
     tie.close
     (tie.spec
-    slice-aggregate-put-bytes
+    (λ c. search needs)
     put-bytes-requires
     put-small-requires
     put-small-requires-2
     put-byte-requires
-    same-length
+    (λ c. search needs)
     returns)

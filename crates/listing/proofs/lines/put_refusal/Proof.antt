@@ -6,15 +6,6 @@ use Rattle.listing.proofs.Writing.{put-then}
 use Rattle.listing.proofs.lines.put_refusal.Statement.{statement}
 use Rattle.listing.proofs.lines.put_refusal.Tie as tie
 
-number-requires : tie.Need-number-requires
-number-requires c κs = search needs
-
-detail-requires : tie.Need-detail-requires
-detail-requires c κs = search needs
-
-slice-aggregate-put-bytes : tie.Need-slice-aggregate-put-bytes
-slice-aggregate-put-bytes c = search needs
-
 put-bytes-requires : tie.Need-put-bytes-requires
 put-bytes-requires c κs = omega arith
 
@@ -26,9 +17,6 @@ put-number-requires-2 c κs = omega arith
 
 put-byte-requires : tie.Need-put-byte-requires
 put-byte-requires c κs = omega arith
-
-same-length : tie.Need-same-length
-same-length c = search needs
 
 returns : tie.Need-returns
 unfolding refusalLine
@@ -43,12 +31,12 @@ pub put-refusal-spec : {M : Type 1} → statement M
 put-refusal-spec =
     tie.close
     (tie.spec
-    number-requires
-    detail-requires
-    slice-aggregate-put-bytes
+    (λ c κs. search needs)
+    (λ c κs. search needs)
+    (λ c. search needs)
     put-bytes-requires
     put-number-requires
     put-number-requires-2
     put-byte-requires
-    same-length
+    (λ c. search needs)
     returns)

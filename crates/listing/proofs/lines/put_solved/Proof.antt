@@ -15,9 +15,6 @@ put-cameras-requires c κs = omega arith
 put-views-requires : tie.Need-put-views-requires
 put-views-requires c κs = omega arith
 
-same-length : tie.Need-same-length
-same-length c = search needs
-
 returns : tie.Need-returns
 unfolding solvedText
 returns c = put-then (c .before .before .before .before .before .before .before .before .before .before .put-ok .ensures .0) (put-then (c .before .before .before .before .before .before .put-cameras .ensures .0) (c .before .before .put-views .ensures))
@@ -25,4 +22,4 @@ returns c = put-then (c .before .before .before .before .before .before .before 
 pub put-solved-spec : {M : Type 1} → statement M
 put-solved-spec =
     tie.close
-    (tie.spec put-ok-requires put-cameras-requires put-views-requires same-length returns)
+    (tie.spec put-ok-requires put-cameras-requires put-views-requires (λ c. search needs) returns)

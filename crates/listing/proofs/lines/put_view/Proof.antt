@@ -15,9 +15,6 @@ put-small-requires c κs = omega arith
 put-pose-requires : tie.Need-put-pose-requires
 put-pose-requires c κs = omega arith
 
-same-length : tie.Need-same-length
-same-length c = search needs
-
 returns : tie.Need-returns
 unfolding viewLine
 returns c =
@@ -30,4 +27,4 @@ returns c =
 
 pub put-view-spec : {M : Type 1} → statement M
 put-view-spec =
-    tie.close (tie.spec put-byte-requires put-small-requires put-pose-requires same-length returns)
+    tie.close (tie.spec put-byte-requires put-small-requires put-pose-requires (λ c. search needs) returns)

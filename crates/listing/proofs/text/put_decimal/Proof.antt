@@ -6,25 +6,13 @@ use Rattle.listing.proofs.Digits.{digits-decimalText, length-decimalTex
 use Rattle.listing.proofs.text.put_decimal.Statement.{statement}
 use Rattle.listing.proofs.text.put_decimal.Tie as tie
 
-decimal-requires : tie.Need-decimal-requires
-decimal-requires c κs = search needs
-
 put-byte-requires : tie.Need-put-byte-requires
 put-byte-requires c κs = omega arith
-
-array-share-prefix-digits : tie.Need-array-share-prefix-digits
-array-share-prefix-digits c = search needs
-
-slice-aggregate-put-bytes : tie.Need-slice-aggregate-put-bytes
-slice-aggregate-put-bytes c = search needs
 
 put-bytes-requires : tie.Need-put-bytes-requires
 put-bytes-requires c κs =
     let d = c .before .before .before .before .before .before .decimal in
     omega (arith, length-decimalText (c .before .before .before .before .before .before .before .before .before .args .n) (d .result) (omega arith) (d .ensures .1 .0))
-
-same-length : tie.Need-same-length
-same-length c = search needs
 
 returns : tie.Need-returns
 returns c =
@@ -35,10 +23,10 @@ pub put-decimal-spec : {M : Type 1} → statement M
 put-decimal-spec =
     tie.close
     (tie.spec
-    decimal-requires
+    (λ c κs. search needs)
     put-byte-requires
-    array-share-prefix-digits
-    slice-aggregate-put-bytes
+    (λ c. search needs)
+    (λ c. search needs)
     put-bytes-requires
-    same-length
+    (λ c. search needs)
     returns)

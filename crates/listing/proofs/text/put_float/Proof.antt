@@ -6,28 +6,13 @@ use Rattle.listing.proofs.Digits.{fewest-sixteen, digits-floatText, len
 use Rattle.listing.proofs.text.put_float.Statement.{statement}
 use Rattle.listing.proofs.text.put_float.Tie as tie
 
-bits-of-requires : tie.Need-bits-of-requires
-bits-of-requires c κs = search needs
-
-hex-requires : tie.Need-hex-requires
-hex-requires c κs = search needs
-
 put-byte-requires : tie.Need-put-byte-requires
 put-byte-requires c κs = omega arith
-
-array-share-prefix-digits : tie.Need-array-share-prefix-digits
-array-share-prefix-digits c = search needs
-
-slice-aggregate-put-bytes : tie.Need-slice-aggregate-put-bytes
-slice-aggregate-put-bytes c = search needs
 
 put-bytes-requires : tie.Need-put-bytes-requires
 put-bytes-requires c κs =
     let h = c .before .before .before .before .before .before .hex in
     omega (arith, fewest-sixteen (c .before .before .before .before .before .before .before .before .bits-of .result) (h .result) (omega arith) (h .ensures .1 .0))
-
-same-length : tie.Need-same-length
-same-length c = search needs
 
 returns : tie.Need-returns
 returns c =
@@ -42,11 +27,11 @@ pub put-float-spec : {M : Type 1} → statement M
 put-float-spec =
     tie.close
     (tie.spec
-    bits-of-requires
-    hex-requires
+    (λ c κs. search needs)
+    (λ c κs. search needs)
     put-byte-requires
-    array-share-prefix-digits
-    slice-aggregate-put-bytes
+    (λ c. search needs)
+    (λ c. search needs)
     put-bytes-requires
-    same-length
+    (λ c. search needs)
     returns)

@@ -29,9 +29,6 @@ put-float-requires-7 c κs = omega arith
 put-byte-requires : tie.Need-put-byte-requires
 put-byte-requires c κs = omega arith
 
-same-length : tie.Need-same-length
-same-length c = search needs
-
 returns : tie.Need-returns
 returns c =
     let p1 = c .before .before .before .before .before .before .before .before .before .before .before .before .before .before .before .before .before .before .before .before .before .before .before .before .before .before .before .before .before .before .put-float .ensures in
@@ -58,5 +55,5 @@ put-pose-spec =
     put-float-requires-6
     put-float-requires-7
     put-byte-requires
-    same-length
+    (λ c. search needs)
     returns)

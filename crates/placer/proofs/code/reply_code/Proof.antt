@@ -4,21 +4,6 @@ use Rattle.placer.specs.Code.{codeOfReply}
 use Rattle.placer.proofs.code.reply_code.Statement.{statement}
 use Rattle.placer.proofs.code.reply_code.Tie as tie
 
-enum-told : tie.Need-enum-told
-enum-told c = search needs
-
-enum-told-2 : tie.Need-enum-told-2
-enum-told-2 c = search needs
-
-enum-told-3 : tie.Need-enum-told-3
-enum-told-3 c = search needs
-
-enum-known-reply : tie.Need-enum-known-reply
-enum-known-reply c = search needs
-
-refusal-code-requires : tie.Need-refusal-code-requires
-refusal-code-requires c κs = search needs
-
 returns : tie.Need-returns
 unfolding codeOfReply
 returns c = simp (c .enum-told .given .1)
@@ -39,11 +24,11 @@ pub reply-code-spec : {M : Type 1} → statement M
 reply-code-spec =
     tie.close
     (tie.spec
-    enum-told
-    enum-told-2
-    enum-told-3
-    enum-known-reply
-    refusal-code-requires
+    (λ c. search needs)
+    (λ c. search needs)
+    (λ c. search needs)
+    (λ c. search needs)
+    (λ c κs. search needs)
     returns
     returns-2
     returns-3

@@ -9,15 +9,6 @@ returns : tie.Need-returns
 unfolding isRecord
 returns c = simp (ne-eqb _ _ (c .if1 .taken))
 
-shared-slice-read-result : tie.Need-shared-slice-read-result
-shared-slice-read-result c = search needs
-
-shared-slice-read-result-2 : tie.Need-shared-slice-read-result-2
-shared-slice-read-result-2 c = search needs
-
-shared-slice-read-result-3 : tie.Need-shared-slice-read-result-3
-shared-slice-read-result-3 c = search needs
-
 returns-2 : tie.Need-returns-2
 unfolding isRecord
 returns-2 c = simp (eq-eqb _ _ (c .before .before .before .if1 .left))
@@ -27,7 +18,7 @@ is-record-spec =
     tie.close
     (tie.spec
     returns
-    shared-slice-read-result
-    shared-slice-read-result-2
-    shared-slice-read-result-3
+    (λ c. search needs)
+    (λ c. search needs)
+    (λ c. search needs)
     returns-2)

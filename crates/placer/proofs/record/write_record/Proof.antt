@@ -19,24 +19,6 @@ abbrev μ-loop : tie.MeasureT-loop
 loop-holds : tie.Need-loop-holds Inv-loop μ-loop
 loop-holds c = (search needs, refl, below-none _)
 
-mul-words : tie.Need-mul-words Inv-loop μ-loop
-mul-words c = search needs
-
-element-copy-out-words : tie.Need-element-copy-out-words Inv-loop μ-loop
-element-copy-out-words c = search needs
-
-mul-words-2 : tie.Need-mul-words-2 Inv-loop μ-loop
-mul-words-2 c = search needs
-
-slice-write-words : tie.Need-slice-write-words Inv-loop μ-loop
-slice-write-words c = search needs
-
-add-camera : tie.Need-add-camera Inv-loop μ-loop
-add-camera c = search needs
-
-loop-less : tie.Need-loop-less Inv-loop μ-loop
-loop-less c = search needs
-
 loop-again : tie.Need-loop-again Inv-loop μ-loop
 loop-again c =
     let l = c .before .before in
@@ -49,27 +31,6 @@ loop-again c =
           (λ k h. getD-set-other (l .loop .words) (l .loop .camera) k mask 0 (omega arith) ∙ l .loop .inv .2 k h)
           (getD-set-same (l .loop .words) (l .loop .camera) mask 0 (search needs)),
     )
-
-cast-words : tie.Need-cast-words Inv-loop μ-loop
-cast-words c = search needs
-
-slice-write-words-2 : tie.Need-slice-write-words-2 Inv-loop μ-loop
-slice-write-words-2 c = search needs
-
-cast-words-2 : tie.Need-cast-words-2 Inv-loop μ-loop
-cast-words-2 c = search needs
-
-slice-write-words-3 : tie.Need-slice-write-words-3 Inv-loop μ-loop
-slice-write-words-3 c = search needs
-
-cast-words-3 : tie.Need-cast-words-3 Inv-loop μ-loop
-cast-words-3 c = search needs
-
-slice-write-words-4 : tie.Need-slice-write-words-4 Inv-loop μ-loop
-slice-write-words-4 c = search needs
-
-same-length : tie.Need-same-length Inv-loop μ-loop
-same-length c = search needs
 
 returns : tie.Need-returns Inv-loop μ-loop
 returns c =
@@ -84,18 +45,18 @@ write-record-spec =
     Inv-loop
     μ-loop
     loop-holds
-    mul-words
-    element-copy-out-words
-    mul-words-2
-    slice-write-words
-    add-camera
-    loop-less
+    (λ c. search needs)
+    (λ c. search needs)
+    (λ c. search needs)
+    (λ c. search needs)
+    (λ c. search needs)
+    (λ c. search needs)
     loop-again
-    cast-words
-    slice-write-words-2
-    cast-words-2
-    slice-write-words-3
-    cast-words-3
-    slice-write-words-4
-    same-length
+    (λ c. search needs)
+    (λ c. search needs)
+    (λ c. search needs)
+    (λ c. search needs)
+    (λ c. search needs)
+    (λ c. search needs)
+    (λ c. search needs)
     returns)

@@ -5,9 +5,8 @@ use mathlib.Core.Path.{_≡_, refl, sym, _∙_}
 use mathlib.Core.Bool.{true}
 use borrow.Author.Tests.{not-true, not-false}
 use borrow.Author.Needs.{needs}
-use Rattle.chains.specs.Limits.{maxCameras}
-use Rattle.session.specs.Session.{allBelow}
-use Rattle.session.specs.Steps.{maskFits}
+use Rattle.limits.specs.Limits.{maxCameras}
+use Rattle.session.specs.Session.{allBelow, maskFits}
 use Rattle.session.proofs.AllBelow.{allBelow-more, allBelow-fails}
 use Rattle.session.proofs.record.has_possible_masks.Statement.{statement}
 use Rattle.session.proofs.record.has_possible_masks.Tie as tie
@@ -22,19 +21,10 @@ loop-holds : tie.Need-loop-holds Inv-loop μ-loop
 unfolding allBelow
 loop-holds c = (search needs, refl)
 
-mask-fits-requires : tie.Need-mask-fits-requires Inv-loop μ-loop
-mask-fits-requires c κs = search needs
-
 returns : tie.Need-returns Inv-loop μ-loop
 returns c =
     let l = c .before .before .before in
     sym (allBelow-fails (maskFits (l .before .args .session)) (l .loop .camera) maxCameras (c .before .before .loop-test .taken) (sym (c .before .mask-fits .ensures) ∙ not-true _ (c .if1 .taken)))
-
-add-camera : tie.Need-add-camera Inv-loop μ-loop
-add-camera c = search needs
-
-loop-less : tie.Need-loop-less Inv-loop μ-loop
-loop-less c = search needs
 
 loop-again : tie.Need-loop-again Inv-loop μ-loop
 loop-again c =
@@ -53,9 +43,9 @@ has-possible-masks-spec =
     Inv-loop
     μ-loop
     loop-holds
-    mask-fits-requires
+    (λ c κs. search needs)
     returns
-    add-camera
-    loop-less
+    (λ c. search needs)
+    (λ c. search needs)
     loop-again
     returns-2)

@@ -8,24 +8,6 @@ use Rattle.session.proofs.record.has_possible_sizes.Tie as tie
 returns : tie.Need-returns
 returns c = simp (c .if1 .taken)
 
-cast-check-sizes : tie.Need-cast-check-sizes
-cast-check-sizes c = search needs
-
-cast-check-sizes-2 : tie.Need-cast-check-sizes-2
-cast-check-sizes-2 c = search needs
-
-cast-check-sizes-3 : tie.Need-cast-check-sizes-3
-cast-check-sizes-3 c = search needs
-
-check-sizes-requires : tie.Need-check-sizes-requires
-check-sizes-requires c κs = search needs
-
-enum-told : tie.Need-enum-told
-enum-told c = search needs
-
-enum-told-2 : tie.Need-enum-told-2
-enum-told-2 c = search needs
-
 returns-2 : tie.Need-returns-2
 unfolding isNone
 returns-2 c =
@@ -43,11 +25,11 @@ has-possible-sizes-spec =
     tie.close
     (tie.spec
     returns
-    cast-check-sizes
-    cast-check-sizes-2
-    cast-check-sizes-3
-    check-sizes-requires
-    enum-told
-    enum-told-2
+    (λ c. search needs)
+    (λ c. search needs)
+    (λ c. search needs)
+    (λ c κs. search needs)
+    (λ c. search needs)
+    (λ c. search needs)
     returns-2
     returns-3)

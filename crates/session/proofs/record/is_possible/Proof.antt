@@ -7,9 +7,6 @@ use Rattle.session.proofs.PossibleRecords.{possibleSizes-views}
 use Rattle.session.proofs.record.is_possible.Statement.{statement}
 use Rattle.session.proofs.record.is_possible.Tie as tie
 
-has-possible-sizes-requires : tie.Need-has-possible-sizes-requires
-has-possible-sizes-requires c κs = search needs
-
 returns : tie.Need-returns
 unfolding possible
 returns c = simp (sym (c .before .has-possible-sizes .ensures) ∙ not-true _ (c .if1 .taken))
@@ -23,4 +20,4 @@ returns-2 c = simp (c .has-possible-masks .ensures, sym (c .before .before .has-
 
 pub is-possible-spec : {M : Type 1} → statement M
 is-possible-spec =
-    tie.close (tie.spec has-possible-sizes-requires returns has-possible-masks-requires returns-2)
+    tie.close (tie.spec (λ c κs. search needs) returns has-possible-masks-requires returns-2)

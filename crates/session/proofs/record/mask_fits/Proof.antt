@@ -11,20 +11,8 @@ use Rattle.session.proofs.PossibleRecords.{maskFits-outside, maskFits-i
 use Rattle.session.proofs.record.mask_fits.Statement.{statement}
 use Rattle.session.proofs.record.mask_fits.Tie as tie
 
-mul-mask : tie.Need-mul-mask
-mul-mask c = search needs
-
-element-copy-out-mask : tie.Need-element-copy-out-mask
-element-copy-out-mask c = search needs
-
-cast-if1 : tie.Need-cast-if1
-cast-if1 c = search needs
-
 returns : tie.Need-returns
 returns c = let a = c .before .before .args in sym (maskFits-outside (a .t1) (a .camera) (c .if1 .taken))
-
-cast-if2 : tie.Need-cast-if2
-cast-if2 c = search needs
 
 returns-2 : tie.Need-returns-2
 returns-2 c =
@@ -32,12 +20,6 @@ returns-2 c =
     let whole : a .t1 .views ≡ 64 = omega arith in
     let held : Fits w64 (getD (a .t1 .masks) (a .camera) 0) = search needs in
     sym (maskFits-inside (a .t1) (a .camera) (c .before .if1 .left) ∙ rw whole (lt-ltb (getD (a .t1 .masks) (a .camera) 0) (2 ^ 64) (held .fits)))
-
-cast-result : tie.Need-cast-result
-cast-result c = search needs
-
-shr-result : tie.Need-shr-result
-shr-result c = search needs
 
 returns-3 : tie.Need-returns-3
 returns-3 c =
@@ -48,12 +30,12 @@ pub mask-fits-spec : {M : Type 1} → statement M
 mask-fits-spec =
     tie.close
     (tie.spec
-    mul-mask
-    element-copy-out-mask
-    cast-if1
+    (λ c. search needs)
+    (λ c. search needs)
+    (λ c. search needs)
     returns
-    cast-if2
+    (λ c. search needs)
     returns-2
-    cast-result
-    shr-result
+    (λ c. search needs)
+    (λ c. search needs)
     returns-3)

@@ -1,7 +1,8 @@
 //! Feeds damaged streams to the library and to document 01's meaning of a stream with the Rust under Solve, call by call: `fuzz STREAMS SEED
-//! CORPUS`, or `fuzz STREAMS SEED CORPUS NUMBER` for one stream of such a run. Every call's answer and next offset are compared, and all
-//! lent memory after the last call of a stream and after about one in eight of the others.
+//! CORPUS`, or `fuzz STREAMS SEED CORPUS NUMBER` for one stream of such a run. After every call its answer, its next offset and all lent
+//! memory are compared: bit by bit, but for a NaN that a Solve wrote.
 
+use drivers::grid::POSE_FLOATS;
 use drivers::stream::*;
 use random::Random;
 use std::collections::BTreeMap;
@@ -20,14 +21,72 @@ fn disturb(random: &mut Random, state: &mut State, length: usize, at: &mut usize
         5 => {
             state.buffer.pop();
         }
-        6 => state.buffer.push(0.0),
+        6 => state.buffer.push(any_nan(random)),
         7 => state.transforms.truncate(random.below(FIRST_FLOATS)),
         8 => state.chains.truncate(random.below(SECOND_BYTES)),
+        // A pose that is held is no longer finite, so that a Solve must see it.
         _ => {
-            let at = random.below(BUFFER_FLOATS);
-            state.buffer[at] = if random.once_in(2) { f64::NAN } else { f64::INFINITY };
+            let held = state.held_starts();
+            let at = if held.is_empty() { random.below(BUFFER_FLOATS) } else { held[random.below(held.len())] + random.below(POSE_FLOATS) };
+            state.buffer[at] = match random.below(4) {
+                0 => f64::INFINITY,
+                1 => f64::NEG_INFINITY,
+                _ => any_nan(random),
+            };
         }
     }
+}
+
+/// How a call may end, where one number has two causes each by itself.
+const KINDS: [&str; 20] = [
+    "end", "accepted", "solved", "1", "2", "3", "5", "7 at Pose", "7 at Solve", "8", "9", "10", "11 within a command", "11 past the end", "12", "13",
+    "21 at Pose", "21 at Solve", "22", "23",
+];
+
+fn kind(answer: Answer, stream: &[u8], at: usize) -> &'static str {
+    let at_pose = stream.get(at) == Some(&2);
+    let name = match (answer.code, answer.code >> 32) {
+        (END, _) => "end",
+        (ACCEPTED, _) => "accepted",
+        (SOLVED, _) => "solved",
+        (_, 7) if at_pose => "7 at Pose",
+        (_, 7) => "7 at Solve",
+        (_, 11) if at > stream.len() => "11 past the end",
+        (_, 11) => "11 within a command",
+        (_, 21) if at_pose => "21 at Pose",
+        (_, 21) => "21 at Solve",
+        (_, number) => &number.to_string(),
+    };
+    KINDS.into_iter().find(|&kind| kind == name).unwrap_or_else(|| panic!("no answer is called {name}"))
+}
+
+/// The comparison itself notices what it is there for: a NaN made quiet, another sign or payload, one bit of anything else; but not
+/// another NaN where a Solve wrote one.
+fn comparison_notices(random: &mut Random) {
+    let before = {
+        let mut state = State::fresh();
+        fill(random, &mut state.buffer, BUFFER_FLOATS, 4);
+        fill(random, &mut state.transforms, FIRST_FLOATS, 4);
+        state.buffer[17] = f64::from_bits(0x7ff0_0000_0000_0001);
+        state.transforms[17] = f64::from_bits(0xfff4_0000_0000_0000);
+        state
+    };
+    assert!(difference(&before, &before, 0).is_none());
+    let spoil = |x: &mut f64, bits: u64| *x = f64::from_bits(x.to_bits() ^ bits);
+    // The bit that makes a NaN quiet, the sign, and one of the payload.
+    for bits in [1 << 51, 1 << 63, 1 << 7] {
+        let (mut buffer, mut first) = (before.clone(), before.clone());
+        spoil(&mut buffer.buffer[17], bits);
+        spoil(&mut first.transforms[17], bits);
+        assert!(difference(&buffer, &before, 0).is_some() && difference(&buffer, &before, FIRST_FLOATS).is_some(), "a NaN in the buffer");
+        assert!(difference(&first, &before, 0).is_some() && difference(&first, &before, 17).is_some(), "a NaN in the first answer");
+        assert!(difference(&first, &before, 18).is_none(), "a NaN that was written");
+    }
+    let (mut record, mut second, mut number) = (before.clone(), before.clone(), before.clone());
+    record.record[0] ^= 1;
+    second.chains[SECOND_BYTES - 1] ^= 1;
+    number.transforms[17] = 0.0;
+    assert!([record, second, number].iter().all(|spoilt| difference(spoilt, &before, 18).is_some()), "anything else");
 }
 
 fn main() {
@@ -45,8 +104,9 @@ fn main() {
     assert!(!corpus.is_empty(), "no streams in the corpus");
 
     let (mut calls, mut differences) = (0u64, 0u64);
-    let mut codes: BTreeMap<u64, u64> = BTreeMap::new();
+    let mut kinds: BTreeMap<&str, u64> = BTreeMap::new();
     let (mut ours, mut expected) = (State::fresh(), State::fresh());
+    comparison_notices(&mut Random::new(seed, u64::MAX));
     let run = match only {
         Some(number) => number..number + 1,
         None => 0..streams,
@@ -59,22 +119,21 @@ fn main() {
         if !random.once_in(20) {
             damage(random, &mut stream, other);
         }
-        if random.once_in(2000) {
-            stream.resize(random.between(MAX_STREAM - 1, MAX_STREAM + 2), 3);
-            stream.truncate(if random.once_in(2) { MAX_STREAM } else { stream.len() });
+        // Streams as long as they may be, which take many calls, and, more often, longer ones, which take one.
+        if number % 4000 == 0 {
+            stream.resize(MAX_STREAM, 3);
+        } else if random.once_in(400) {
+            stream.resize(MAX_STREAM + random.between(1, 3), 3);
         }
-        // What stands in lent memory at first is nothing's business but for the record.
-        let filler = f64::from_bits(random.bits());
-        for state in [&mut ours, &mut expected] {
-            state.record.clear();
-            state.record.resize(RECORD_WORDS, 0);
-            state.buffer.clear();
-            state.buffer.resize(BUFFER_FLOATS, filler);
-            state.transforms.clear();
-            state.transforms.resize(FIRST_FLOATS + (number % 3) as usize, filler);
-            state.chains.clear();
-            state.chains.resize(SECOND_BYTES + (number % 2) as usize, number as u8);
-        }
+        // What stands in lent memory at first is nothing's business but for the record, and a refusal keeps every bit of it.
+        let fourths_nan = random.below(5) as u64;
+        expected.record.clear();
+        expected.record.resize(RECORD_WORDS, 0);
+        fill(random, &mut expected.buffer, BUFFER_FLOATS, fourths_nan);
+        fill(random, &mut expected.transforms, FIRST_FLOATS + (number % 3) as usize, fourths_nan);
+        expected.chains.clear();
+        expected.chains.resize(SECOND_BYTES + (number % 2) as usize, number as u8);
+        ours.clone_from(&expected);
         let mut at = 0;
         let mut disturbed = random.once_in(8);
         let mut turns = 0;
@@ -87,13 +146,13 @@ fn main() {
             let answer = call(&mut expected, &stream, at);
             let answered = library(&mut ours, &stream, at);
             calls += 1;
-            *codes.entry(if answer.code < 1 << 32 { answer.code } else { answer.code >> 32 << 32 }).or_default() += 1;
-            let mut fault = (answered != answer).then(|| format!("{answered:x?}, and {answer:x?} was expected"));
-            // Memory is compared whole at the end, and after a call in between now and then: what a call spoils stays spoilt.
+            *kinds.entry(kind(answer, &stream, at)).or_default() += 1;
             let last = answer.code == END || answer.next >= stream.len() || turns > 70_000;
-            if fault.is_none() && (last || random.once_in(8)) {
-                fault = difference(&ours, &expected);
-            }
+            let written = written(&expected, answer);
+            let fault = (answered != answer)
+                .then(|| format!("{answered:x?}, and {answer:x?} was expected"))
+                .or_else(|| difference(&ours, &expected, written));
+            take_nans(&ours, &mut expected, written);
             if let Some(fault) = fault {
                 differences += 1;
                 println!("DIFFERENCE in stream {number} of seed {seed}, {} bytes, at offset {at}: {fault}", stream.len());
@@ -113,24 +172,14 @@ fn main() {
         }
     }
     println!("fuzz: {streams} streams of seed {seed}, {calls} calls: {differences} differences");
-    let name = |code: &u64| match *code {
-        END => "end".to_owned(),
-        ACCEPTED => "accepted".to_owned(),
-        SOLVED => "solved".to_owned(),
-        refused => format!("{}", refused >> 32),
-    };
-    println!("  {}", codes.iter().map(|(code, count)| format!("{}: {count}", name(code))).collect::<Vec<_>>().join(", "));
-    let missing: Vec<String> = [0, 1, 2]
-        .into_iter()
-        .chain([1, 2, 3, 5, 7, 8, 9, 10, 11, 12, 13, 21, 22, 23].map(|number: u64| number << 32))
-        .filter(|code| !codes.contains_key(code))
-        .map(|code| name(&code))
-        .collect();
-    if only.is_none() && streams >= 100_000 && !missing.is_empty() {
-        println!("  but nothing of: {}", missing.join(", "));
+    let counts = KINDS.map(|kind| (kind, kinds.get(kind).copied().unwrap_or(0)));
+    println!("  {}", counts.map(|(kind, count)| format!("{kind}: {count}")).join(", "));
+    let missing: Vec<&str> = counts.into_iter().filter(|&(_, count)| count == 0).map(|(kind, _)| kind).collect();
+    if differences > 0 {
         exit(1);
     }
-    if differences > 0 {
+    if only.is_none() && streams >= 20_000 && !missing.is_empty() {
+        println!("  but nothing of: {}", missing.join(", "));
         exit(1);
     }
 }

@@ -1,6 +1,7 @@
 //! Records the sample that crates/replay replays: `record STDIN STDOUT` writes the program's input, and what the Rust's side answers to it.
 
 use drivers::grid::{finite_bits, pose};
+use drivers::oracle::bits;
 use drivers::stream::*;
 use random::Random;
 use std::fmt::Write;
@@ -30,14 +31,6 @@ fn roots(random: &mut Random) -> Vec<u64> {
         roots.push(finite_bits(random).abs().to_bits());
     }
     roots
-}
-
-/// Told by the bits: of a choice between a NaN and a root by `is_nan`, LLVM keeps the root, whose NaN has other bits.
-fn bits(x: f64) -> u64 {
-    match x.to_bits() {
-        nan if nan & !(1 << 63) > 0x7ff0_0000_0000_0000 => 0x7ff8_0000_0000_0000,
-        bits => bits,
-    }
 }
 
 /// The lines of document 01, "Output lines".

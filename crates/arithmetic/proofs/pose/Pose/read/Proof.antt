@@ -5,66 +5,6 @@ use Rattle.arithmetic.specs.Pose.{poseAt}
 use Rattle.arithmetic.proofs.pose.Pose.read.Statement.{statement}
 use Rattle.arithmetic.proofs.pose.Pose.read.Tie as tie
 
-mul-t3 : tie.Need-mul-t3
-mul-t3 c = search needs
-
-shared-slice-read-t5 : tie.Need-shared-slice-read-t5
-shared-slice-read-t5 c = search needs
-
-add-t6 : tie.Need-add-t6
-add-t6 c = search needs
-
-mul-t7 : tie.Need-mul-t7
-mul-t7 c = search needs
-
-shared-slice-read-t9 : tie.Need-shared-slice-read-t9
-shared-slice-read-t9 c = search needs
-
-add-t10 : tie.Need-add-t10
-add-t10 c = search needs
-
-mul-t11 : tie.Need-mul-t11
-mul-t11 c = search needs
-
-shared-slice-read-t13 : tie.Need-shared-slice-read-t13
-shared-slice-read-t13 c = search needs
-
-add-t15 : tie.Need-add-t15
-add-t15 c = search needs
-
-mul-t16 : tie.Need-mul-t16
-mul-t16 c = search needs
-
-shared-slice-read-t18 : tie.Need-shared-slice-read-t18
-shared-slice-read-t18 c = search needs
-
-add-t19 : tie.Need-add-t19
-add-t19 c = search needs
-
-mul-t20 : tie.Need-mul-t20
-mul-t20 c = search needs
-
-shared-slice-read-t22 : tie.Need-shared-slice-read-t22
-shared-slice-read-t22 c = search needs
-
-add-t23 : tie.Need-add-t23
-add-t23 c = search needs
-
-mul-t24 : tie.Need-mul-t24
-mul-t24 c = search needs
-
-shared-slice-read-t26 : tie.Need-shared-slice-read-t26
-shared-slice-read-t26 c = search needs
-
-add-t27 : tie.Need-add-t27
-add-t27 c = search needs
-
-mul-t28 : tie.Need-mul-t28
-mul-t28 c = search needs
-
-shared-slice-read-t30 : tie.Need-shared-slice-read-t30
-shared-slice-read-t30 c = search needs
-
 returns : tie.Need-returns
 unfolding poseAt
 returns c = refl
@@ -73,24 +13,24 @@ pub read-spec : {M : Type 1} → statement M
 read-spec =
     tie.close
     (tie.spec
-    mul-t3
-    shared-slice-read-t5
-    add-t6
-    mul-t7
-    shared-slice-read-t9
-    add-t10
-    mul-t11
-    shared-slice-read-t13
-    add-t15
-    mul-t16
-    shared-slice-read-t18
-    add-t19
-    mul-t20
-    shared-slice-read-t22
-    add-t23
-    mul-t24
-    shared-slice-read-t26
-    add-t27
-    mul-t28
-    shared-slice-read-t30
+    (λ c. search needs)
+    (λ c. search needs)
+    (λ c. search needs)
+    (λ c. search needs)
+    (λ c. search needs)
+    (λ c. search needs)
+    (λ c. search needs)
+    (λ c. search needs)
+    (λ c. search needs)
+    (λ c. search needs)
+    (λ c. search needs)
+    (λ c. search needs)
+    (λ c. search needs)
+    (λ c. search needs)
+    (λ c. search needs)
+    (λ c. search needs)
+    (λ c. search needs)
+    (λ c. search needs)
+    (λ c. search needs)
+    (λ c. search needs)
     returns)

@@ -7,9 +7,6 @@ use Rattle.arithmetic.specs.Pose.{flat}
 use Rattle.arithmetic.proofs.pose.Pose.write.Statement.{statement}
 use Rattle.arithmetic.proofs.pose.Pose.write.Tie as tie
 
-slice-write-part : tie.Need-slice-write-part
-slice-write-part c = search needs
-
 slice-write-part-2 : tie.Need-slice-write-part-2
 slice-write-part-2 c = simp length-set (omega arith)
 
@@ -25,12 +22,6 @@ slice-write-part-5 c = simp length-set (omega arith)
 slice-write-part-6 : tie.Need-slice-write-part-6
 slice-write-part-6 c = simp length-set (omega arith)
 
-slice-write-part-7 : tie.Need-slice-write-part-7
-slice-write-part-7 c = search needs
-
-same-length : tie.Need-same-length
-same-length c = search needs
-
 returns : tie.Need-returns
 returns c = sets-eq (flat (c .before .before .args .self)) (c .before .before .args .part .now) 0 (c .before .before .pre)
 
@@ -38,12 +29,12 @@ pub write-spec : {M : Type 1} → statement M
 write-spec =
     tie.close
     (tie.spec
-    slice-write-part
+    (λ c. search needs)
     slice-write-part-2
     slice-write-part-3
     slice-write-part-4
     slice-write-part-5
     slice-write-part-6
-    slice-write-part-7
-    same-length
+    (λ c. search needs)
+    (λ c. search needs)
     returns)

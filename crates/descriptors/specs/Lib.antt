@@ -1,0 +1,2 @@
+-- What the contracts of `descriptors` cite. Definitions only.
+pub mod Moved

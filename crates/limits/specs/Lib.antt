@@ -1,0 +1,2 @@
+-- The limits of document 01. Definitions only.
+pub mod Limits

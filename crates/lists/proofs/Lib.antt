@@ -1,0 +1,6 @@
+-- Laws of lists, counts, searches and bits.
+pub mod Tabulated
+pub mod Counting
+pub mod Lowest
+pub mod PowerSums
+pub mod MaskBits

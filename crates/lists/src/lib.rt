@@ -1,0 +1,1 @@
+// No code: lists, counts, searches and bits, and their laws.

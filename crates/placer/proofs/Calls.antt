@@ -1,0 +1,51 @@
+-- What `placer_step` ensures, by whether the words that it is handed are a record: then it is what one call of the session leaves
+-- (`stepped-as-call`), and otherwise a refusal that changes nothing (`stepped-no-record`). Assumes nothing.
+use Prim.Native.Nat.{ℕ}
+use mathlib.Core.Path.{_≡_, refl, ap, _∙_}
+use mathlib.Core.Bool.{Bool, true, false, cond}
+use mathlib.Core.List.{List}
+use lib.ListN.{length}
+use lib.Ieee.{Float}
+use borrow.Author.Tests.{lt-ltb, le-ltb}
+use Rattle.refusal.specs.declared.Refusal.the-variants.{TooLong, WrongLength}
+use Rattle.session.specs.Call.{Result, state, maxStream}
+use Rattle.placer.specs.Code.{codeOf, codeOfReply}
+use Rattle.placer.specs.Step.{wordsOf, sessionIn, isRecord, notARecord, stepped, wordsAfter, Stepped}
+use Rattle.placer.specs.Reading.{CallReply, NoRecordReply}
+use Rattle.placer.proofs.Steps.{stepped-not, stepped-call}
+
+module _ (words stream : List ℕ) (at : ℕ) (buffer first : List Float) (second : List ℕ) (r next : ℕ) (words′ : List ℕ) (buffer′ first′ : List Float)
+    (second′ : List ℕ) (step : Stepped words stream at buffer first second r next words′ buffer′ first′ second′) where
+  words-when : (b : Bool) → isRecord words ≡ b → words′ ≡ cond b (wordsOf (stepped words stream at buffer first second .after .session)) words
+  unfolding wordsAfter
+  words-when b e = step .words-after ∙ ap (λ (b : Bool). cond b (wordsOf (stepped words stream at buffer first second .after .session)) words) e
+
+  -- "The library obeys one command per call, at an offset the caller names, and tells where the next begins".
+  pub stepped-as-call : isRecord words ≡ true
+      → CallReply (state (sessionIn words) buffer first second) stream at r next words′ buffer′ first′ second′
+  stepped-as-call e =
+      let same = stepped-call words stream at buffer first second e (sessionIn words) refl in
+      record {
+        reply = step .reply ∙ ap (λ (x : Result). codeOfReply (x .reply)) same;
+        next-is = step .next-is ∙ ap (λ (x : Result). x .next) same;
+        words-after = words-when true e ∙ ap (λ (x : Result). wordsOf (x .after .session)) same;
+        buffer-after = step .buffer-after ∙ ap (λ (x : Result). x .after .buffer) same;
+        first-after = step .first-after ∙ ap (λ (x : Result). x .after .first) same;
+        second-after = step .second-after ∙ ap (λ (x : Result). x .after .second) same;
+      }
+
+  -- "13 comes before 5".
+  pub stepped-no-record : isRecord words ≡ false → NoRecordReply words stream buffer first second r next words′ buffer′ first′ second′
+  unfolding codeOfReply
+  stepped-no-record e =
+      let same = stepped-not words stream at buffer first second e in
+      let code : r ≡ codeOf (notARecord (length stream)) = step .reply ∙ ap (λ (x : Result). codeOfReply (x .reply)) same in
+      record {
+        too-long = λ h. code ∙ ap (λ (b : Bool). codeOf (cond b TooLong WrongLength)) (lt-ltb maxStream (length stream) h);
+        any-other = λ h. code ∙ ap (λ (b : Bool). codeOf (cond b TooLong WrongLength)) (le-ltb maxStream (length stream) h);
+        next-is = step .next-is ∙ ap (λ (x : Result). x .next) same;
+        same-words = words-when false e;
+        same-buffer = step .buffer-after ∙ ap (λ (x : Result). x .after .buffer) same;
+        same-first = step .first-after ∙ ap (λ (x : Result). x .after .first) same;
+        same-second = step .second-after ∙ ap (λ (x : Result). x .after .second) same;
+      }

@@ -1,0 +1,3 @@
+-- The laws of this crate, beside the proofs of its functions. Assumes nothing.
+pub mod Products
+pub mod Replies

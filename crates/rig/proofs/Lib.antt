@@ -1,0 +1,2 @@
+-- The laws of `rig`'s loop.
+pub mod Rounds

@@ -1,0 +1,2 @@
+-- What the contract of `rig`'s loop cites. Definitions only.
+pub mod AllObeyed

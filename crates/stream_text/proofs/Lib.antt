@@ -1,0 +1,2 @@
+-- The laws of a stream obeyed in parts.
+pub mod Parts
