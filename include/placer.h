@@ -25,8 +25,12 @@ extern "C" {
 #define PLACER_MAX_VIEWS 64
 #define PLACER_MAX_CAMERAS 16
 
-/* What a session is lent: the words of its record, the doubles of its buffer, and both answers. */
+/* What a session is lent: the words of its record (a mask for each camera, then those named here), the doubles of its buffer, and both
+ * answers. */
 #define PLACER_RECORD_WORDS 19
+#define PLACER_VIEWS_WORD 16
+#define PLACER_CAMERAS_WORD 17
+#define PLACER_REFERENCE_WORD 18
 #define PLACER_BUFFER_FLOATS 7168
 #define PLACER_FIRST_FLOATS 560
 #define PLACER_SECOND_BYTES 32
@@ -48,7 +52,7 @@ enum placer_refusal {
     PLACER_UNREACHED = 8,         /* the cameras without a chain: the sum of 2 to the power c over them */
     PLACER_EMPTY_VIEW = 9,        /* the lowest view without poses */
     PLACER_UNKNOWN_COMMAND = 10,  /* the byte */
-    PLACER_TRUNCATED = 11,        /* the offset of the command that the stream ends within; the length for an offset past the end */
+    PLACER_TRUNCATED = 11,        /* the offset of the command that the stream ends within, at which to go on once it is longer; the length for an offset past the end */
     PLACER_OUTSIDE_RIG = 12,      /* view * 256 + camera */
     PLACER_TOO_LONG = 13,         /* a stream of more than 65,536 bytes */
     PLACER_NO_SIZE = 21,          /* Pose or Solve before an accepted Size */
@@ -89,10 +93,15 @@ uint64_t placer_estimate(const uint32_t *counts, size_t counts_length, const uin
  *   0x02 Pose:  view, camera, one byte each, then seven doubles, low byte first
  *   0x03 Solve
  * What a session holds is its record, `session`, of exactly PLACER_RECORD_WORDS words that are all 0 at first (one mask of views for each camera, bit v
- * for view v; then at 16, 17 and 18 the views, the cameras and the reference), and its poses, `buffer`, of exactly PLACER_BUFFER_FLOATS
- * doubles, a cell's seven from 7 * (view * 16 + camera), which the caller keeps from call to call and need not fill. Size and Pose leave both answers as they are. Both answers have at least PLACER_FIRST_FLOATS and
- * PLACER_SECOND_BYTES. Refused: 13 and then 5 before all else; 10 and 11; 21 and 22; by Size its views by 1, then 2, its cameras by 1, then 2, then 3; 12, 23 and 7 by Pose;
- * 7, 8 and 9 by Solve. After 5, 10, 11 and 13 `next` is the stream's length, and after any other the offset of the next command. */
+ * for view v; then the views, the cameras and the reference), and its poses, `buffer`, of exactly PLACER_BUFFER_FLOATS
+ * doubles, a cell's seven from 7 * (view * 16 + camera), which the caller keeps from call to call and need not fill. Both answers have at
+ * least PLACER_FIRST_FLOATS and PLACER_SECOND_BYTES. An accepted Size writes the record, an accepted Pose the record and the buffer, a
+ * Solve that is obeyed both answers, and no call writes anything else but `next`: whoever saves record and buffer has saved the session.
+ * Refused: 13 and then 5 before all else; 10 and 11; 21 and 22; by Size its views by 1, then 2, its cameras by 1, then 2, then 3; 12, 23 and 7 by Pose;
+ * 7, 8 and 9 by Solve. After 5, 10, 11 and 13 `next` is the stream's length, and after any other the offset of the next command.
+ * Where a stream arrives in pieces, 11 means that the command at `at` is not whole yet: call again at the SAME offset with the longer
+ * stream (or at 0 of one that begins with that command). Who goes on at `next` loses it: the same stream is answered with PLACER_END there,
+ * and a longer one is read from within the command. */
 uint64_t placer_step(uint64_t *session, size_t session_length, const uint8_t *stream, size_t stream_length, size_t at, double *buffer,
                      size_t buffer_length, double *transforms, size_t transforms_length, uint8_t *chains, size_t chains_length, size_t *next);
 

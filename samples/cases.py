@@ -1,4 +1,4 @@
-"""The cases of the program `replies`: every refusal with its detail, every rule of order, and rigs that are solved.
+"""The cases of the program `test_session`: every refusal with its detail, every rule of order, and rigs that are solved.
 
 A case is a label, a record, an offset, the lengths of what is lent, and a stream. `encode` says how the program reads
 one, `expected` what it must print: for each call the next offset and the reply, and then the record.

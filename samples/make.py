@@ -3,7 +3,7 @@
 
     python3 samples/make.py
 
-writes samples/*.stream and samples/*.listing, and the files stdin and stdout of crates/rig and crates/replies.
+writes samples/*.stream and samples/*.listing, and the files stdin and stdout of crates/rig and crates/test_session.
 
 A stream is a file for the program's standard input:  rig < samples/five_cameras.stream
 """
@@ -113,8 +113,8 @@ def main():
         write(name + '.listing', oracle.rig(stream).encode())
     write('../crates/rig/stdin', program_stream())
     write('../crates/rig/stdout', oracle.rig(program_stream()).encode())
-    write('../crates/replies/stdin', b''.join(case.encode() for case in cases.cases()))
-    write('../crates/replies/stdout', ''.join(case.expected() for case in cases.cases()).encode())
+    write('../crates/test_session/stdin', b''.join(case.encode() for case in cases.cases()))
+    write('../crates/test_session/stdout', ''.join(case.expected() for case in cases.cases()).encode())
 
 
 if __name__ == '__main__':

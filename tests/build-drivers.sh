@@ -1,5 +1,5 @@
 #!/bin/sh
-# Builds a driver of tests/rust or of bench/ against libplacer.a and libprobe.a of target/staticlib, and prints the folder that it is then
+# Builds a driver of tests/rust or of bench/ against libplacer.a and libtest_probe.a of target/staticlib, and prints the folder that it is then
 # in: build-drivers.sh DRIVER [SOURCE_FOLDER].
 # From SOURCE_FOLDER extrinsics.rs is taken unchanged; it is copied to target/, which is never committed.
 # NALGEBRA, where it is set, is the real nalgebra as Cargo.toml would name it, as in NALGEBRA='"0.34"'; otherwise the stand-in is built.
@@ -8,7 +8,7 @@ set -eu
 root=$(cd "$(dirname "$0")/.." && pwd)
 command -v cargo >/dev/null || { echo "no cargo on this machine" >&2; exit 2; }
 sh "$root/tests/library.sh" placer
-sh "$root/tests/library.sh" probe
+sh "$root/tests/library.sh" test_probe
 extrinsics=
 if [ $# -ge 2 ]; then
     extrinsics=$(find "$2" -name extrinsics.rs -path '*vision-calibration-linear*' | head -n 1)

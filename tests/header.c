@@ -1,14 +1,20 @@
 /* Every export through the header, each argument by the header's own name: every refusal with its detail, which of several faults is told
- * first, and answers whose bits are known. Guards stand around and behind what is lent. tests/header.sh makes named.h and runs this. */
+ * first, and answers whose bits are known. Guards stand around and behind what is lent, and what a call is not to write stands in read-only
+ * pages: a refusal that writes what was there before is found too. tests/header.sh makes named.h and runs this. */
+#define _POSIX_C_SOURCE 200809L
 #include <math.h>
+#include <signal.h>
 #include <stdio.h>
 #include <string.h>
+#include <sys/mman.h>
+#include <unistd.h>
 
 #include "placer.h"
 #include "named.h"
 
 #define GUARD 123.25
 #define GUARD_BYTE 77
+#define PAGE 4096 /* of x86-64 Linux */
 
 static int calls, failed;
 static uint32_t seen;
@@ -51,6 +57,19 @@ static void guard(double *memory, size_t length) {
     while (length > 0) memory[--length] = GUARD;
 }
 
+/* Every page that the memory, which begins one, has a byte in. */
+static void allow(void *memory, size_t bytes, int access) { hold("mprotect", mprotect(memory, (bytes + PAGE - 1) / PAGE * PAGE, access) == 0); }
+
+static void lock(void *memory, size_t bytes) { allow(memory, bytes, PROT_READ); }
+
+static void unlock(void *memory, size_t bytes) { allow(memory, bytes, PROT_READ | PROT_WRITE); }
+
+static void wrote(int number) {
+    static const char words[] = "header.c: a call wrote what it must leave alone\n";
+    (void)number;
+    _exit(write(STDOUT_FILENO, words, sizeof words - 1) < 0 ? 2 : 1);
+}
+
 static uint64_t bits(double x) {
     uint64_t word;
     memcpy(&word, &x, sizeof word);
@@ -76,18 +95,21 @@ static void roots(void) {
 
 static void averages(void) {
     struct rig_pose poses[PLACER_MAX_VIEWS + 1];
-    double memory[PLACER_POSE_FLOATS + 2], *mean = memory + 1;
+    static _Alignas(PAGE) double memory[PAGE / sizeof(double)];
+    double *const mean = memory + 1;
     guard(memory, sizeof memory / sizeof *memory);
     /* Translations (n, n + 10, n + 20), and by turns a half turn about z and its negative. */
     for (int n = 0; n <= PLACER_MAX_VIEWS; n++) poses[n] = (struct rig_pose){.x = n, .y = n + 10, .z = n + 20, .k = n % 2 ? -1 : 1};
     /* Every fault at once, and then one fewer each time. */
     poses[3].w = NAN, poses[5].x = INFINITY;
+    lock(memory, sizeof memory);
     refuses("average of none", CALL(rig_average_isometries, .poses = NULL, .poses_length = 0, .mean = mean), PLACER_INSUFFICIENT_DATA, 0);
     refuses("average of 65", CALL(rig_average_isometries, .poses = poses, .poses_length = PLACER_MAX_VIEWS + 1, .mean = mean), PLACER_TOO_MANY, 0);
     refuses("average with a NaN", CALL(rig_average_isometries, .poses = poses, .poses_length = PLACER_MAX_VIEWS, .mean = mean), PLACER_NOT_FINITE, 3);
     poses[3].w = 0;
     refuses("average with an infinity", CALL(rig_average_isometries, .poses = poses, .poses_length = PLACER_MAX_VIEWS, .mean = mean), PLACER_NOT_FINITE, 5);
     hold("a refused average wrote", all_doubles(memory, sizeof memory / sizeof *memory, GUARD));
+    unlock(memory, sizeof memory);
     poses[5].x = 5;
     static const double of_two[] = {0.5, 10.5, 20.5, 0, 0, 1, 0}, of_all[] = {31.5, 41.5, 51.5, 0, 0, 1, 0};
     replies("average of two", CALL(rig_average_isometries, .poses = poses, .poses_length = 2, .mean = mean), 0);
@@ -119,7 +141,7 @@ static const double rig_first[FIRST] = {
 static const uint8_t rig_second[SECOND] = {1, 1, 1, 0};
 
 static struct {
-    uint32_t counts[PLACER_MAX_VIEWS + 1];
+    _Alignas(PAGE) uint32_t counts[PLACER_MAX_VIEWS + 1];
     uint8_t marks[CELLS + 1];
     double floats[FLOATS + 1];
     size_t counts_length, marks_length, floats_length, first_length, second_length;
@@ -128,9 +150,12 @@ static struct {
     uint8_t second[SECOND + 4];
 } direct;
 
-static uint64_t estimate(void) {
+static void guard_answers(void) {
     guard(direct.first, FIRST + 4);
     memset(direct.second, GUARD_BYTE, SECOND + 4);
+}
+
+static uint64_t estimate(void) {
     return CALL(placer_estimate, .counts = direct.counts, .counts_length = direct.counts_length, .marks = direct.marks,
                 .marks_length = direct.marks_length, .floats = direct.floats, .floats_length = direct.floats_length,
                 .reference = direct.reference, .transforms = direct.first + 1, .transforms_length = direct.first_length,
@@ -138,7 +163,10 @@ static uint64_t estimate(void) {
 }
 
 static void not_estimated(const char *what, enum placer_refusal number, uint32_t detail) {
+    guard_answers();
+    lock(&direct, sizeof direct);
     refuses(what, estimate(), number, detail);
+    unlock(&direct, sizeof direct);
     hold("a refused estimate wrote", all_doubles(direct.first, FIRST + 4, GUARD) && all_bytes(direct.second, SECOND + 4, GUARD_BYTE));
 }
 
@@ -198,6 +226,7 @@ static void estimates(void) {
     /* Solved: the NaN of an empty cell is ignored, and both answers are longer than they need be. */
     set_marks(rig_marks);
     direct.first_length++, direct.second_length++;
+    guard_answers();
     replies("a rig", estimate(), 0);
     hold("the rig's transforms", memcmp(direct.first + 1, rig_first, sizeof rig_first) == 0);
     hold("the rig's chains", memcmp(direct.second + 1, rig_second, sizeof rig_second) == 0);
@@ -210,19 +239,34 @@ static void estimates(void) {
 enum { SIZE_BYTES = 4, POSE_BYTES = 3 + 8 * PLACER_POSE_FLOATS };
 
 static struct {
-    uint64_t record[PLACER_RECORD_WORDS + 1];
-    double buffer[PLACER_BUFFER_FLOATS], first[PLACER_FIRST_FLOATS + 2];
-    uint8_t stream[PLACER_MAX_STREAM + 1], second[PLACER_SECOND_BYTES + 2];
+    _Alignas(PAGE) uint64_t record[PLACER_RECORD_WORDS + 1];
+    _Alignas(PAGE) double buffer[PLACER_BUFFER_FLOATS];
+    _Alignas(PAGE) double first[PLACER_FIRST_FLOATS + 2];
+    _Alignas(PAGE) uint8_t second[PLACER_SECOND_BYTES + 2];
+    _Alignas(PAGE) uint8_t stream[PLACER_MAX_STREAM + 1];
     size_t record_length, stream_length, buffer_length, first_length, second_length, next;
 } lent, before;
 
-static uint64_t step(size_t at) {
+/* What a command writes when it is obeyed. */
+enum part { NOTHING = 0, RECORD = 1, BUFFER = 2, ANSWERS = 4 };
+
+static void each_part(unsigned parts, void change(void *, size_t)) {
+    if (parts & RECORD) change(lent.record, sizeof lent.record);
+    if (parts & BUFFER) change(lent.buffer, sizeof lent.buffer);
+    if (parts & ANSWERS) change(lent.first, sizeof lent.first), change(lent.second, sizeof lent.second);
+}
+
+static uint64_t step(size_t at, unsigned written) {
     lent.next = SIZE_MAX;
     before = lent;
-    return CALL(placer_step, .session = lent.record, .session_length = lent.record_length, .stream = lent.stream,
-                .stream_length = lent.stream_length, .at = at, .buffer = lent.buffer, .buffer_length = lent.buffer_length,
-                .transforms = lent.first + 1, .transforms_length = lent.first_length, .chains = lent.second + 1,
-                .chains_length = lent.second_length, .next = &lent.next);
+    const unsigned locked = ~written;
+    each_part(locked, lock);
+    uint64_t reply = CALL(placer_step, .session = lent.record, .session_length = lent.record_length, .stream = lent.stream,
+                          .stream_length = lent.stream_length, .at = at, .buffer = lent.buffer, .buffer_length = lent.buffer_length,
+                          .transforms = lent.first + 1, .transforms_length = lent.first_length, .chains = lent.second + 1,
+                          .chains_length = lent.second_length, .next = &lent.next);
+    each_part(locked, unlock);
+    return reply;
 }
 
 static int unchanged(void) {
@@ -232,13 +276,13 @@ static int unchanged(void) {
 
 /* Refused, with nothing changed and the next offset told. */
 static void not_obeyed(const char *what, size_t at, enum placer_refusal number, uint32_t detail, size_t next) {
-    refuses(what, step(at), number, detail);
+    refuses(what, step(at, NOTHING), number, detail);
     hold(what, lent.next == next);
     hold("a refused command wrote", unchanged());
 }
 
-static void obeyed(const char *what, size_t at, uint64_t reply, size_t next) {
-    replies(what, step(at), reply);
+static void obeyed(const char *what, size_t at, uint64_t reply, size_t next, unsigned written) {
+    replies(what, step(at, written), reply);
     hold(what, lent.next == next);
 }
 
@@ -273,7 +317,7 @@ static void sessions(void) {
     memset(lent.second, GUARD_BYTE, sizeof lent.second);
 
     /* 13, then 5 for each length and for the record, before all else: nothing here has a command, and every offset is past the end. */
-    lent.stream_length = PLACER_MAX_STREAM + 1, lent.record[16] = 256, lent.record_length = PLACER_RECORD_WORDS - 1;
+    lent.stream_length = PLACER_MAX_STREAM + 1, lent.record[PLACER_VIEWS_WORD] = 256, lent.record_length = PLACER_RECORD_WORDS - 1;
     lent.buffer_length = PLACER_BUFFER_FLOATS - 1, lent.first_length = PLACER_FIRST_FLOATS - 1, lent.second_length = PLACER_SECOND_BYTES - 1;
     not_obeyed("65,537 bytes", SIZE_MAX, PLACER_TOO_LONG, 0, PLACER_MAX_STREAM + 1);
     lent.stream_length = PLACER_MAX_STREAM;
@@ -282,7 +326,7 @@ static void sessions(void) {
     not_obeyed("a word too many", SIZE_MAX, PLACER_WRONG_LENGTH, 0, PLACER_MAX_STREAM);
     lent.record_length = PLACER_RECORD_WORDS;
     not_obeyed("256 views", SIZE_MAX, PLACER_WRONG_LENGTH, 0, PLACER_MAX_STREAM);
-    lent.record[16] = 0;
+    lent.record[PLACER_VIEWS_WORD] = 0;
     not_obeyed("a buffer too short", SIZE_MAX, PLACER_WRONG_LENGTH, 0, PLACER_MAX_STREAM);
     lent.buffer_length = PLACER_BUFFER_FLOATS;
     not_obeyed("no room for a number", SIZE_MAX, PLACER_WRONG_LENGTH, 0, PLACER_MAX_STREAM);
@@ -298,7 +342,7 @@ static void sessions(void) {
     lent.stream_length = 3 + SIZE_BYTES - 1;
     memcpy(lent.stream, (uint8_t[]){0x00, 0x04, 0xff, 0x01, 1, 1}, 6);
     not_obeyed("an offset past the end", 7, PLACER_TRUNCATED, 6, 6);
-    obeyed("the end", 6, PLACER_END, 6);
+    obeyed("the end", 6, PLACER_END, 6, NOTHING);
     not_obeyed("byte 0", 0, PLACER_UNKNOWN_COMMAND, 0x00, 6);
     not_obeyed("byte 4", 1, PLACER_UNKNOWN_COMMAND, 0x04, 6);
     not_obeyed("byte 255", 2, PLACER_UNKNOWN_COMMAND, 0xff, 6);
@@ -317,9 +361,14 @@ static void sessions(void) {
     not_sized("no cameras", VIEWS, 0, 0, PLACER_INSUFFICIENT_DATA);
     not_sized("17 cameras", VIEWS, PLACER_MAX_CAMERAS + 1, 17, PLACER_TOO_MANY);
     not_sized("reference 2 of 2", VIEWS, CAMERAS, CAMERAS, PLACER_INVALID_REFERENCE);
+    /* Where the stream arrives in pieces: 11, and the same offset once it is longer. */
     size(VIEWS, CAMERAS, REFERENCE);
-    obeyed("Size", 0, PLACER_ACCEPTED, SIZE_BYTES);
-    hold("the sizes in the record", lent.record[16] == VIEWS && lent.record[17] == CAMERAS && lent.record[18] == REFERENCE);
+    lent.stream_length--;
+    not_obeyed("Size not whole yet", 0, PLACER_TRUNCATED, 0, SIZE_BYTES - 1);
+    obeyed("the end behind it", lent.next, PLACER_END, SIZE_BYTES - 1, NOTHING);
+    lent.stream_length++;
+    obeyed("Size", 0, PLACER_ACCEPTED, SIZE_BYTES, RECORD);
+    hold("the sizes in the record", lent.record[PLACER_VIEWS_WORD] == VIEWS && lent.record[PLACER_CAMERAS_WORD] == CAMERAS && lent.record[PLACER_REFERENCE_WORD] == REFERENCE);
     not_sized("Size again, of no views", 0, 0, 0, PLACER_SIZE_AGAIN);
 
     /* Pose: 12, 23, 7. View 2 and camera 1 make the detail 513; view 3 is outside, and so is camera 2. */
@@ -330,7 +379,7 @@ static void sessions(void) {
     pose(2, 1, spoilt);
     not_obeyed("a NaN at cell 5", 0, PLACER_NOT_FINITE, 2 * CAMERAS + 1, POSE_BYTES);
     pose(2, 1, rig_floats + 5 * PLACER_POSE_FLOATS);
-    obeyed("Pose", 0, PLACER_ACCEPTED, POSE_BYTES);
+    obeyed("Pose", 0, PLACER_ACCEPTED, POSE_BYTES, RECORD | BUFFER);
     hold("the mask of camera 1", lent.record[1] == 1 << 2);
     hold("the seven floats of its cell", memcmp(lent.buffer + cell_5, rig_floats + 5 * PLACER_POSE_FLOATS, 7 * sizeof(double)) == 0);
     hold("the floats around them", all_doubles(lent.buffer, cell_5, GUARD) && all_doubles(lent.buffer + cell_5 + 7, PLACER_BUFFER_FLOATS - cell_5 - 7, GUARD));
@@ -344,18 +393,18 @@ static void sessions(void) {
     lent.buffer[cell_5] = rig_floats[5 * PLACER_POSE_FLOATS];
     not_obeyed("camera 0 without a chain, and views 0 and 1 empty", 0, PLACER_UNREACHED, 1 << 0, 1);
     pose(2, 0, rig_floats + 4 * PLACER_POSE_FLOATS);
-    obeyed("Pose of camera 0", 0, PLACER_ACCEPTED, POSE_BYTES);
+    obeyed("Pose of camera 0", 0, PLACER_ACCEPTED, POSE_BYTES, RECORD | BUFFER);
     hold("the mask of camera 0", lent.record[0] == 1 << 2 && memcmp(lent.buffer + cell_4, rig_floats + 4 * PLACER_POSE_FLOATS, 7 * sizeof(double)) == 0);
     solve();
     not_obeyed("views 0 and 1 empty", 0, PLACER_EMPTY_VIEW, 0, 1);
     for (uint8_t cell = 0; cell < 4; cell++) {
         if (!rig_marks[cell]) continue;
         pose(cell / CAMERAS, cell % CAMERAS, rig_floats + cell * PLACER_POSE_FLOATS);
-        obeyed("Pose of the rig", 0, PLACER_ACCEPTED, POSE_BYTES);
+        obeyed("Pose of the rig", 0, PLACER_ACCEPTED, POSE_BYTES, RECORD | BUFFER);
     }
     memcpy(lent.stream, (uint8_t[]){0x03, 0x00, 0x03, 0x00}, 4);
     lent.stream_length = 4;
-    obeyed("Solve", 2, PLACER_SOLVED, 3);
+    obeyed("Solve", 2, PLACER_SOLVED, 3, ANSWERS);
     hold("the session's transforms", memcmp(lent.first + 1, rig_first, sizeof rig_first) == 0);
     hold("the session's chains", memcmp(lent.second + 1, rig_second, sizeof rig_second) == 0);
     hold("memory around a session's rig", lent.first[0] == GUARD && all_doubles(lent.first + 1 + FIRST, PLACER_FIRST_FLOATS + 1 - FIRST, GUARD) && lent.second[0] == GUARD_BYTE && all_bytes(lent.second + 1 + SECOND, PLACER_SECOND_BYTES + 1 - SECOND, GUARD_BYTE));
@@ -366,11 +415,12 @@ static void sessions(void) {
 }
 
 int main(void) {
+    signal(SIGSEGV, wrote);
     roots();
     averages();
     estimates();
     sessions();
     for (size_t n = 0; n < sizeof every_refusal / sizeof *every_refusal; n++) hold("a refusal was never met", seen >> every_refusal[n] & 1);
-    if (!failed) printf("%d calls, every refusal among them, as expected\n", calls);
+    if (!failed) printf("%d calls, every refusal among them, as expected, in memory that is read-only where a call is not to write\n", calls);
     return failed;
 }

@@ -19,7 +19,7 @@ same() { diff "$work/source-$1" "$work/header-$1" >"$work/differ" || { echo "hea
 
 # The number of a constant, those that it is made of worked out first; where there is none, or there are two, the numbers below differ.
 constant() {
-    worth=$(sed -n "s/^\(pub \)\{0,1\}const $1: usize = \(.*\);.*/\2/p" crates/limits/src/*.rt crates/averaging/src/*.rt crates/session/src/*.rt crates/placer/src/*.rt)
+    worth=$(sed -n "s/^\(pub \)\{0,1\}const $1: usize = \(.*\);.*/\2/p" crates/limits/src/*.rt crates/averaging/src/*.rt crates/session_record/src/*.rt crates/session/src/*.rt crates/placer/src/*.rt)
     while part=$(echo "$worth" | grep -oE '[A-Z][A-Z_]+' | head -n 1) && [ -n "$part" ]; do
         number=$(constant "$part")
         worth=$(echo "$worth" | sed "s/$part/${number:-none}/g")

@@ -1,11 +1,15 @@
 """Runs the program on streams whose answers samples/oracle.py knows, over inputs and outputs of all kinds:  python3 -B tests/rig.py RIG
 
-Streams drawn at random; the largest rig, solved as often as a stream allows; inputs that come in pieces, late, or fail; outputs that are slow, or fail.
+Streams drawn at random, over every count of views and of cameras; the largest rig, solved as often as a stream allows; inputs that come in pieces, late,
+are too long, or fail; outputs that are slow, take a part, fail at once or later, or that nobody reads. What goes wrong is told on standard error: the exit
+status is 0 unless a signal ends the program.
 """
 
 import math
 import os
 import random
+import resource
+import signal
 import socket
 import subprocess
 import sys
@@ -21,18 +25,19 @@ from commands import SOLVE, pose, size
 
 RIG = os.path.abspath(sys.argv[1])
 DRAWN = 400
+SPARSE = 640
 PAUSE = 0.05
 
 
-def expect(what, printed, wanted, told=b'', wanted_told=b''):
-    if printed != wanted or told != wanted_told:
-        sys.exit('rig: %s: it printed %r.. (%d bytes) and told %r' % (what, printed[:80], len(printed), told))
+def expect(what, printed, wanted, told=b'', wanted_told=b'', status=0, wanted_status=0):
+    if printed != wanted or told != wanted_told or status != wanted_status:
+        sys.exit('rig: %s: it printed %r.. (%d bytes), told %r and ended with %d' % (what, printed[:80], len(printed), told, status))
 
 
-def run(what, wanted, wanted_told=b'', **descriptors):
-    """The program with these descriptors: what it prints and what it tells on standard error."""
-    done = subprocess.run([RIG], stdout=subprocess.PIPE, stderr=subprocess.PIPE, timeout=60, **descriptors)
-    expect(what, done.stdout, wanted, done.stderr, wanted_told)
+def run(what, wanted, wanted_told=b'', wanted_status=0, **descriptors):
+    """The program with these descriptors: what it prints, what it tells on standard error, and how it ends. A status below 0 is a signal."""
+    done = subprocess.run([RIG], stderr=subprocess.PIPE, timeout=60, **{'stdout': subprocess.PIPE, **descriptors})
+    expect(what, done.stdout or b'', wanted, done.stderr, wanted_told, done.returncode, wanted_status)
 
 
 # ---- streams drawn at random
@@ -68,6 +73,33 @@ def drawn_stream(numbers):
     return stream
 
 
+def sparse_stream(numbers, views, cameras):
+    """Cameras that hang together by one view each, and a pose in every view: most can be solved, some lack a pose."""
+    order = numbers.sample(range(cameras), cameras)
+    cells = set()
+    for n in range(1, cameras):
+        view = numbers.randrange(views)
+        cells |= {(view, order[n]), (view, order[numbers.randrange(n)])}
+    for view in range(views):
+        if not any((view, c) in cells for c in range(cameras)):
+            cells.add((view, numbers.randrange(cameras)))
+    cells = sorted(cells)
+    numbers.shuffle(cells)
+    if numbers.random() < 0.2:
+        cells.pop()
+    stream = size(views, cameras, numbers.randrange(cameras)) + b''.join(drawn_pose(numbers, v, c) for v, c in cells)
+    return stream + SOLVE * numbers.randint(1, 3)
+
+
+def check_sparse():
+    """Every count of views, and every count of cameras, again and again."""
+    numbers = random.Random(64016)
+    for n in range(SPARSE):
+        views, cameras = n % oracle.VIEWS + 1, numbers.randint(1, oracle.CAMERAS) if n >= oracle.CAMERAS else n + 1
+        stream = sparse_stream(numbers, views, cameras)
+        run('%d views of %d cameras, stream %d' % (views, cameras, n), oracle.rig(stream).encode(), input=stream)
+
+
 def check_drawn():
     numbers = random.Random(1116)
     for n in range(DRAWN):
@@ -77,12 +109,16 @@ def check_drawn():
 
 # ---- the largest rig
 
-def check_largest():
-    """64 views of 16 cameras, all held, solved as often as the stream has bytes for: every Solve prints the same lines."""
+def largest():
+    """64 views of 16 cameras, all held; and what a Solve of it prints."""
     numbers = random.Random(64)
     start = size(64, 16, 15) + b''.join(pose(v, c, [numbers.uniform(-1.0, 1.0) for _ in range(7)]) for v in range(64) for c in range(16))
+    return start, oracle.rig(start + SOLVE).encode()
+
+
+def check_largest(start, listing):
+    """Solved as often as the stream has bytes for: every Solve prints the same lines."""
     solves = oracle.STREAM - len(start)
-    listing = oracle.rig(start + SOLVE).encode()
     with tempfile.TemporaryFile() as given, tempfile.TemporaryFile() as printed:
         given.write(start + SOLVE * solves)
         given.seek(0)
@@ -132,9 +168,14 @@ def check_inputs():
     os.set_blocking(given, False)
     writer = threading.Thread(target=write_slowly, args=(end, stream))
     writer.start()
+    before = resource.getrusage(resource.RUSAGE_CHILDREN)
     run('an empty pipe that does not block, filled later', listing, stdin=given)
+    after = resource.getrusage(resource.RUSAGE_CHILDREN)
     writer.join()
     os.close(given)
+    busy = after.ru_utime + after.ru_stime - before.ru_utime - before.ru_stime
+    if busy > PAUSE * 2:
+        sys.exit('rig: it kept the processor busy for %.2f s while it waited' % busy)
     given, end = socket.socketpair()
     end.sendall(stream)
     given.sendall(b'unread')
@@ -146,18 +187,24 @@ def check_inputs():
     run('a directory', b'', b'rig: standard input: Is a directory\n', stdin=folder)
     os.close(folder)
     run('no input at all', b'', stdin=subprocess.DEVNULL)
+    for length in (oracle.STREAM + 1, oracle.STREAM + 2, 200000):
+        run('a pipe of %d bytes' % length, b'no 13 0\n', input=SOLVE * length)
+        with tempfile.TemporaryFile() as given:
+            given.write(SOLVE * length)
+            given.seek(0)
+            run('a file of %d bytes' % length, b'no 13 0\n', stdin=given)
 
 
 # ---- outputs
 
-def check_outputs():
-    stream = sample() + SOLVE * 200
-    listing = oracle.rig(stream).encode()
+def check_slow(start, listing):
+    """A pipe that does not block and is read slowly. It takes what it has room for, so that some writes of a listing, which is longer than PIPE_BUF, are taken in part."""
+    solves = 40
     end, taken = os.pipe()
     os.set_blocking(taken, False)
     program = subprocess.Popen([RIG], stdin=subprocess.PIPE, stdout=taken, stderr=subprocess.PIPE)
     os.close(taken)
-    program.stdin.write(stream)
+    program.stdin.write(start + SOLVE * solves)
     program.stdin.close()
     printed = b''
     while True:
@@ -169,25 +216,42 @@ def check_outputs():
     os.close(end)
     told = program.stderr.read()
     program.stderr.close()
-    program.wait(timeout=60)
-    expect('a slow pipe that does not block', printed, listing, told)
-    for what, target, error in (
-        ('an output that is full', '/dev/full', b'No space left on device'),
-        ('an output that is open for reading alone', '/dev/null', b'Bad file descriptor'),
-    ):
-        with open(target, 'wb' if target == '/dev/full' else 'rb') as taken:
-            done = subprocess.run([RIG], input=stream, stdout=taken, stderr=subprocess.PIPE, timeout=60)
-        expect(what, b'', b'', done.stderr, b'rig: standard output: ' + error + b'\n')
-    done = subprocess.run([RIG], input=stream, stderr=subprocess.PIPE, timeout=60, preexec_fn=lambda: os.close(1))
-    expect('an output that is closed', b'', b'', done.stderr, b'rig: standard output: Bad file descriptor\n')
+    expect('a slow pipe that does not block', printed, listing * solves, told, status=program.wait(timeout=60))
+
+
+def check_outputs(start, listing):
+    full = b'rig: standard output: No space left on device\n'
+    closed = b'rig: standard output: Bad file descriptor\n'
+    with open('/dev/full', 'wb') as taken:
+        run('an output that is full', b'', full, input=start + SOLVE * 2, stdout=taken)
+        run('an output that is full, and one refusal', b'', full, input=SOLVE, stdout=taken)
+        run('an output that is full, and nothing to print', b'', input=start, stdout=taken)
+    with open('/dev/null', 'rb') as taken:
+        run('an output that is open for reading alone', b'', closed, input=SOLVE, stdout=taken)
+    run('an output that is closed', b'', closed, input=SOLVE, preexec_fn=lambda: os.close(1))
+    # Python ignores SIGPIPE and SIGXFSZ, and hands that on to the program unless it restores them, as it does where nothing is said.
+    for room in (5000, len(listing) + 5000):
+        with tempfile.TemporaryFile() as taken:
+            limit = lambda: resource.setrlimit(resource.RLIMIT_FSIZE, (room, room))
+            run('a file of %d bytes at most' % room, b'', b'rig: standard output: File too large\n', input=start + SOLVE * 9, stdout=taken, preexec_fn=limit, restore_signals=False)
+            taken.seek(0)
+            expect('what a file of %d bytes at most holds' % room, taken.read(), (listing * 2)[:room])
+    end, taken = os.pipe()
+    os.close(end)
+    run('a pipe that nobody reads', b'', wanted_status=-signal.SIGPIPE, input=SOLVE, stdout=taken)
+    run('a pipe that nobody reads, with SIGPIPE ignored', b'', b'rig: standard output: Broken pipe\n', input=SOLVE, stdout=taken, restore_signals=False)
+    os.close(taken)
 
 
 def main():
+    start, listing = largest()
     check_inputs()
-    check_outputs()
-    solves, bytes_printed = check_largest()
+    check_slow(start, listing)
+    check_outputs(start, listing)
+    solves, bytes_printed = check_largest(start, listing)
+    check_sparse()
     check_drawn()
-    print('rig: %d Solves of 64 views and 16 cameras (%d bytes), %d drawn streams, inputs and outputs of all kinds, as expected' % (solves, bytes_printed, DRAWN))
+    print('rig: %d Solves of 64 views and 16 cameras (%d bytes), %d drawn streams, inputs and outputs of all kinds, as expected' % (solves, bytes_printed, DRAWN + SPARSE))
 
 
 main()

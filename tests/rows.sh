@@ -10,7 +10,7 @@ programs=$("$root/tests/build-drivers.sh" rows "$1")
 mkdir -p "$root/target"
 "$programs/rows" | LC_ALL=C sort >"$root/target/rows.rust"
 # The name of each definition, and the numbers of 16 digits in it, up to the next blank line.
-for file in arithmetic/specs/Rows.antt average/specs/Rows.antt cases/specs/GridRow.antt cases/specs/OtherGrids.antt; do cat "$root/crates/$file"; echo; done |
+for file in arithmetic/specs/Rows.antt mean/specs/Rows.antt claims_cases/specs/GridRow.antt claims_cases/specs/OtherGrids.antt; do cat "$root/crates/$file"; echo; done |
     awk '
         /^[A-Za-z][A-Za-z0-9]* =/ { name = $1 }
         /^$/ { if (name != "" && numbers != "") print name numbers; name = ""; numbers = "" }

@@ -1,7 +1,7 @@
 """Which rows notice which slip: every exact row is computed in Python's IEEE doubles, under document 01's reading and under each slip.
 
-The rows are those of crates/arithmetic/specs/Rows.antt, crates/average/specs/Rows.antt, and GridRow.antt and OtherGrids.antt of
-crates/cases/specs. It fails unless the right reading gives exactly the numbers that stand there, and each of the slips listed here gives
+The rows are those of crates/arithmetic/specs/Rows.antt, crates/mean/specs/Rows.antt, and GridRow.antt and OtherGrids.antt of
+crates/claims_cases/specs. It fails unless the right reading gives exactly the numbers that stand there, and each of the slips listed here gives
 another number in at least one row. It prints, for each of them, the rows that notice it; a slip of several variants is noticed where each of
 them is. Run it from anywhere: python3 tests/slips.py.
 
@@ -620,8 +620,8 @@ def by_previous(reading, poses):
 
 # ---- the numbers that stand in the files
 
-FILES = ['crates/arithmetic/specs/Rows.antt', 'crates/average/specs/Rows.antt', 'crates/cases/specs/GridRow.antt',
-         'crates/cases/specs/OtherGrids.antt']
+FILES = ['crates/arithmetic/specs/Rows.antt', 'crates/mean/specs/Rows.antt', 'crates/claims_cases/specs/GridRow.antt',
+         'crates/claims_cases/specs/OtherGrids.antt']
 
 
 def recorded():

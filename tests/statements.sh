@@ -1,6 +1,6 @@
 #!/bin/sh
 # Holds docs/STATEMENTS.md to the repository: every name that it gives in backticks is found in the crates, every file that it names is there,
-# every must-fail edit is named, and the lines to believe are those that the papers quote.
+# every must-fail edit is named, the lines to believe are those that the papers quote, and the conditions on callers are those of the code.
 set -eu
 cd "$(dirname "$0")/.."
 map=docs/STATEMENTS.md
@@ -12,16 +12,19 @@ for edit in crates/*/must-fail/*.edit; do
 done
 for name in $(grep -o '`[^` ]*`' "$map" | tr -d '`' | sort -u); do
   case $name in
-  */*) there "$name" "crates/$name" crates/*/"$name" || say "no $name" ;;
+  --*) ;;
+  */*) there "$name" "crates/$name" crates/*/"$name" crates/*/proofs/"$name" || say "no $name" ;;
   *.antt | *.rt) [ -n "$(find crates -name "$name")" ] || say "no file $name" ;;
   *) there "crates/$name" || grep -rqF --include='*.rt' --include='*.antt' -e "${name#*::}" crates || say "nothing is called $name" ;;
   esac
 done
 if command -v python3 >/dev/null 2>&1; then
-  believe=$(python3 tests/believe.py | tail -n 1)
+  told=$(python3 tests/believe.py) || say "$told"
+  believe=$(echo "$told" | tail -n 1)
   for paper in README.md "$map"; do
     grep -qF "$believe" "$paper" || say "$paper does not say '$believe'"
   done
+  python3 tests/conditions.py || wrong=1
 fi
 [ "$wrong" -eq 0 ] && echo "statements: every name and file of $map is there, and every must-fail edit is named"
 exit "$wrong"

@@ -1,5 +1,5 @@
 #!/usr/bin/env python3
-"""Runs the rows of crates/printing/specs/Rows.antt: each row's stream through the program, and each row and call through the reading of
+"""Runs the rows of crates/claims_rows/specs/Rows.antt: each row's stream through the program, and each row and call through the reading of
 document 01 in samples/oracle.py, against the text that the row says. Rows from other states than a fresh session cannot be run through the
 program, which always begins with one. Needs target/bin/rig, which `rt check rig` makes.
 """
@@ -16,7 +16,7 @@ sys.path.insert(0, os.path.join(ROOT, 'samples'))
 import oracle
 
 PROGRAM = os.path.join(ROOT, 'target/bin/rig')
-SOURCE = os.path.join(ROOT, 'crates/printing/specs/Rows.antt')
+SOURCE = os.path.join(ROOT, 'crates/claims_rows/specs/Rows.antt')
 TOKEN = re.compile(r'\s+|--[^\n]*|("(?:[^"\\]|\\.)*"|[()]|∷|\+\+|[^\s()"]+)')
 
 

@@ -1,13 +1,15 @@
 //! Times the library and the Rust on the same inputs, turn by turn in one run: `bench ROUNDS`. A line has the median time of each, the
-//! median of the rounds' ratios, and the ratios between which eight rounds in ten lie. Below 1 the library is the faster.
+//! median of the rounds' ratios, and the ratios between which eight rounds in ten lie. Below 1 the library is the faster. In the last line the library
+//! is held to itself: the Rust's column then has its calls for one command each.
 
 use drivers::grid::{near_identity, Grid, Pose, POSE_FLOATS};
-use drivers::oracle::{flat, iso, views_of};
+use drivers::oracle::{bits, flat, iso, views_of};
 use drivers::stream::{pose_command, size_command, solve_command};
 use random::Random;
 use std::hint::black_box;
+use std::io::Write;
 use vision_calibration_core::Iso3;
-use vision_calibration_linear::extrinsics::{average_isometries, estimate_extrinsics_from_cam_target_poses};
+use vision_calibration_linear::extrinsics::{average_isometries, estimate_extrinsics_from_cam_target_poses, ExtrinsicPoses};
 
 /// Nanoseconds that this thread has had of a processor: what else the machine does meanwhile is not counted.
 fn clock() -> u64 {
@@ -157,45 +159,119 @@ fn stream(random: &mut Random) -> Vec<u8> {
     stream
 }
 
-/// The Rust has no stream: this is a plain reader of one, above the Rust's function. It counts what is refused.
-fn read_plainly(stream: &[u8]) -> (usize, usize) {
+/// What a reader tells of a command that prints something.
+enum Told<'a> {
+    Solved(&'a ExtrinsicPoses),
+    Refused(usize, usize),
+}
+
+/// The Rust has no stream: this is a plain reader of one, above the Rust's function. A grid that the Rust does not solve is in no stream here.
+fn read_plainly(stream: &[u8], mut tell: impl FnMut(Told)) {
     let mut views: Vec<Vec<Option<Iso3>>> = Vec::new();
     let mut reference = 0;
-    let (mut solved, mut refused) = (0, 0);
     let mut at = 0;
     while at < stream.len() {
         match &stream[at..] {
             [1, v, c, r, ..] => {
-                if views.is_empty() && (1..=64).contains(v) && (1..=16).contains(c) && r < c {
-                    views = vec![vec![None; *c as usize]; *v as usize];
-                    reference = *r as usize;
-                } else {
-                    refused += 1;
+                match (*v, *c, *r) {
+                    _ if !views.is_empty() => tell(Told::Refused(22, 0)),
+                    (0, ..) => tell(Told::Refused(1, 0)),
+                    (65.., ..) => tell(Told::Refused(2, 0)),
+                    (_, 0, _) => tell(Told::Refused(1, 0)),
+                    (_, 17.., _) => tell(Told::Refused(2, 0)),
+                    (_, c, r) if r >= c => tell(Told::Refused(3, 0)),
+                    (v, c, r) => {
+                        views = vec![vec![None; c as usize]; v as usize];
+                        reference = r as usize;
+                    }
                 }
                 at += 4;
             }
             [2, v, c, floats @ ..] if floats.len() >= 56 => {
+                let (v, c) = (*v as usize, *c as usize);
+                let (sized, cell) = (!views.is_empty(), v * views.first().map_or(0, Vec::len) + c);
                 let offered: Pose = std::array::from_fn(|i| f64::from_le_bytes(floats[8 * i..8 * i + 8].try_into().unwrap()));
-                match views.get_mut(*v as usize).and_then(|view| view.get_mut(*c as usize)) {
-                    Some(cell @ None) if offered.iter().all(|x| x.is_finite()) => *cell = Some(iso(offered)),
-                    _ => refused += 1,
+                match views.get_mut(v).and_then(|view| view.get_mut(c)) {
+                    _ if !sized => tell(Told::Refused(21, 0)),
+                    None => tell(Told::Refused(12, 256 * v + c)),
+                    Some(Some(_)) => tell(Told::Refused(23, 256 * v + c)),
+                    Some(_) if !offered.iter().all(|x| x.is_finite()) => tell(Told::Refused(7, cell)),
+                    Some(empty) => *empty = Some(iso(offered)),
                 }
                 at += 59;
             }
-            [3, ..] => {
-                match estimate_extrinsics_from_cam_target_poses(&views, reference) {
-                    Ok(poses) => {
-                        black_box(poses);
-                        solved += 1;
-                    }
-                    Err(_) => refused += 1,
-                }
+            [3, ..] if views.is_empty() => {
+                tell(Told::Refused(21, 0));
                 at += 1;
             }
-            _ => return (solved, refused + 1),
+            [3, ..] => {
+                let solved = estimate_extrinsics_from_cam_target_poses(&views, reference);
+                tell(Told::Solved(&solved.expect("a grid that is solved")));
+                at += 1;
+            }
+            [1 | 2, ..] => return tell(Told::Refused(11, at)),
+            [other, ..] => return tell(Told::Refused(10, *other as usize)),
+            [] => return,
         }
     }
+}
+
+/// How many commands the plain reader solved, and how many it refused.
+fn count_plainly(stream: &[u8]) -> (usize, usize) {
+    let (mut solved, mut refused) = (0, 0);
+    read_plainly(stream, |told| match told {
+        Told::Solved(poses) => {
+            black_box(poses);
+            solved += 1;
+        }
+        Told::Refused(..) => refused += 1,
+    });
     (solved, refused)
+}
+
+/// The lines that the plain reader prints, as the library does, but that the Rust knows neither parents nor links: both are 0.
+fn print_plainly(stream: &[u8], text: &mut Vec<u8>) {
+    text.clear();
+    read_plainly(stream, |told| match told {
+        Told::Refused(number, detail) => print_line(text, "no", &[number, detail], &[]),
+        Told::Solved(poses) => {
+            print_line(text, "ok", &[poses.rig_se3_cam.len(), poses.rig_se3_target.len()], &[]);
+            for (camera, pose) in poses.rig_se3_cam.iter().enumerate() {
+                print_line(text, "c", &[camera, 0, 0], &flat(pose));
+            }
+            for (view, pose) in poses.rig_se3_target.iter().enumerate() {
+                print_line(text, "v", &[view], &flat(pose));
+            }
+        }
+    });
+}
+
+fn print_line(text: &mut Vec<u8>, word: &str, numbers: &[usize], floats: &[f64]) {
+    text.extend_from_slice(word.as_bytes());
+    for number in numbers {
+        write!(text, " {number}").expect("memory to write to");
+    }
+    for &float in floats {
+        // By a table, which is faster than the standard library's formatting.
+        let (bits, mut field) = (bits(float), [b' '; 17]);
+        for (digit, byte) in field[1..].iter_mut().enumerate() {
+            *byte = b"0123456789abcdef"[(bits >> (60 - 4 * digit) & 15) as usize];
+        }
+        text.extend_from_slice(&field);
+    }
+    text.push(b'\n');
+}
+
+/// Printed lines with 0 for every parent and for every number of links.
+fn without_chains(text: &[u8]) -> String {
+    let line = |line: &str| {
+        let mut fields: Vec<&str> = line.split(' ').collect();
+        if fields[0] == "c" {
+            fields[2..4].fill("0");
+        }
+        fields.join(" ") + "\n"
+    };
+    std::str::from_utf8(text).expect("printed text").lines().map(line).collect()
 }
 
 fn read_by_library(stream: &[u8]) -> (usize, usize) {
@@ -276,13 +352,44 @@ fn main() {
         estimate(rounds, &format!("direct call, 64 views × {cameras} cameras, full"), &dense(random, 64, cameras));
     }
     let stream = stream(random);
-    assert_eq!((read_by_library(&stream), read_plainly(&stream)), ((2, 96), (2, 96)));
+    assert_eq!((read_by_library(&stream), count_plainly(&stream)), ((2, 96), (2, 96)));
     compare(
         rounds,
         "stream of 65,536 bytes: 1,123 commands, two of them Solve",
         1,
         || keep(read_by_library(black_box(&stream))),
-        || keep(read_plainly(black_box(&stream))),
+        || keep(count_plainly(black_box(&stream))),
+    );
+
+    // The same stream with its lines printed into memory that holds them all, so that one call of the whole-stream entry is enough. The times are of the
+    // same lines, but for parents and links.
+    let (mut whole, mut by_calls) = (vec![0; 65_536], vec![0; 65_536]);
+    let mut plain = Vec::with_capacity(65_536);
+    print_plainly(&stream, &mut plain);
+    let (printed, printed_by_calls) = (probe::stream(&stream, &mut whole), probe::calls(&stream, &mut by_calls));
+    assert_eq!((printed, printed_by_calls), (plain.len() as u64, plain.len() as u64));
+    assert_eq!(without_chains(&whole[..plain.len()]), without_chains(&plain));
+    assert_eq!(whole, by_calls);
+    compare(
+        rounds,
+        "the same with its lines printed, by the whole-stream entry",
+        1,
+        || keep(probe::stream(black_box(&stream), black_box(&mut whole))),
+        || print_plainly(black_box(&stream), black_box(&mut plain)),
+    );
+    compare(
+        rounds,
+        "the same with its lines printed, by one call a command",
+        1,
+        || keep(probe::calls(black_box(&stream), black_box(&mut by_calls))),
+        || print_plainly(black_box(&stream), black_box(&mut plain)),
+    );
+    compare(
+        rounds,
+        "the same with its lines printed, by the whole-stream entry, against ours by one call a command",
+        1,
+        || keep(probe::stream(black_box(&stream), black_box(&mut whole))),
+        || keep(probe::calls(black_box(&stream), black_box(&mut by_calls))),
     );
     // The times are of the same answers, which tests/compare.sh holds to each other.
     let ours = placer::average(&poses[..64]).expect("an average");

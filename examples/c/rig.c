@@ -40,7 +40,7 @@ int main(void) {
         uint64_t reply = placer_step(record, PLACER_RECORD_WORDS, stream, length, at, buffer, PLACER_BUFFER_FLOATS, transforms,
                                      PLACER_FIRST_FLOATS, chains, PLACER_SECOND_BYTES, &at);
         if (reply == PLACER_SOLVED)
-            print_rig(record[17], record[16]);
+            print_rig(record[PLACER_CAMERAS_WORD], record[PLACER_VIEWS_WORD]);
         else if (placer_number(reply) != 0)
             printf("no %" PRIu32 " %" PRIu32 "\n", placer_number(reply), placer_detail(reply));
     }

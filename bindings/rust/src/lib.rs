@@ -59,7 +59,7 @@ pub const MAX_VIEWS: usize = 64;
 /// As many cameras as a rig may have.
 pub const MAX_CAMERAS: usize = 16;
 
-/// The words of a session record: sixteen masks, the views, the cameras and the reference.
+/// The words of a session record: a mask for each camera, the views, the cameras and the reference.
 pub const RECORD_WORDS: usize = MAX_CAMERAS + 3;
 
 /// The doubles of a session's buffer.
@@ -106,7 +106,7 @@ impl fmt::Display for Refusal {
             4 => write!(f, "view {detail} has another camera count than view 0"),
             5 => write!(f, "a length does not fit, or no accepted commands leave such a session record"),
             6 => write!(f, "cell {detail} has a mark above 1"),
-            7 => write!(f, "pose {detail} has a number that is not finite"),
+            7 => write!(f, "cell {detail} (view * cameras + camera), or pose {detail} of a list, has a number that is not finite"),
             8 => write!(f, "no chain of shared views ties these cameras to the reference: {:?}", cameras_in(detail)),
             9 => write!(f, "view {detail} has no poses"),
             10 => write!(f, "no command begins with byte {detail}"),
@@ -128,7 +128,10 @@ pub fn cameras_in(detail: u32) -> Vec<usize> {
     (0..MAX_CAMERAS).filter(|&c| detail >> c & 1 == 1).collect()
 }
 
-/// The square root of IEEE 754, for every double: the same answer as [`f64::sqrt`].
+/// The square root of IEEE 754, for every double: the same bits as [`f64::sqrt`] wherever there is a root.
+///
+/// Below zero both answer a NaN, but not the same: this one is 7ff8000000000000, and the machine's may have its sign set. A NaN comes back
+/// as it is.
 pub fn sqrt(x: f64) -> f64 {
     unsafe { ffi::placer_sqrt(x) }
 }
@@ -232,7 +235,17 @@ pub enum Accepted {
 pub struct Reply {
     /// A refusal changes nothing that is held.
     pub answer: Result<Accepted, Refusal>,
-    /// After a refusal that ends the stream, 5, 10, 11 or 13, its length.
+    /// After a refusal that ends the stream, 5, 10, 11 or 13, its length. A stream that is longer later goes on after 11 at the offset
+    /// that was asked for, and not here.
+    pub next: usize,
+}
+
+/// The answers to the commands of a stream from an offset on, and the offset to go on at.
+#[derive(Debug, Clone, PartialEq, Eq)]
+pub struct Fed {
+    /// In order. The last is refused with 11 where the stream ends within a command.
+    pub answers: Vec<Result<Accepted, Refusal>>,
+    /// The stream's length; after 11 the offset of the command that is not whole yet.
     pub next: usize,
 }
 
@@ -255,9 +268,17 @@ impl Default for Session {
 impl Session {
     /// A fresh session: no sizes, no poses.
     pub fn new() -> Session {
+        Session::from_parts([0; RECORD_WORDS], vec![0.0; BUFFER_FLOATS])
+    }
+
+    /// The session that a record and a buffer hold; its rig is there after the next Solve.
+    ///
+    /// Nothing is checked here: a record that no accepted commands leave, and a buffer of another length than [`BUFFER_FLOATS`], have every
+    /// command refused with 5.
+    pub fn from_parts(record: [u64; RECORD_WORDS], buffer: impl Into<Box<[f64]>>) -> Session {
         Session {
-            record: [0; RECORD_WORDS],
-            buffer: vec![0.0; BUFFER_FLOATS].into_boxed_slice(),
+            record,
+            buffer: buffer.into(),
             transforms: [0.0; FIRST_FLOATS],
             chains: [0; SECOND_BYTES],
             solved: false,
@@ -294,15 +315,26 @@ impl Session {
     }
 
     /// The answers to all commands of a stream, in order.
+    ///
+    /// A stream that arrives in pieces is fed by [`Session::feed_from`]: after 11 a feeder calls again at the SAME offset with the longer
+    /// stream, and what is fed here begins at 0.
     pub fn feed(&mut self, stream: &[u8]) -> Vec<Result<Accepted, Refusal>> {
-        let mut answers = Vec::new();
-        let mut at = 0;
-        while at < stream.len() {
-            let Reply { answer, next } = self.step(stream, at);
-            answers.push(answer);
-            at = next;
+        self.feed_from(stream, 0).answers
+    }
+
+    /// The answers to the commands of a stream from an offset on, and where to go on: [`Fed::next`] is the offset for the next call, with
+    /// the longer stream (or with one that begins there, at 0).
+    pub fn feed_from(&mut self, stream: &[u8], at: usize) -> Fed {
+        let mut fed = Fed { answers: Vec::new(), next: at };
+        while fed.next != stream.len() {
+            let Reply { answer, next } = self.step(stream, fed.next);
+            fed.answers.push(answer);
+            if matches!(answer, Err(Refusal { number: 11, .. })) {
+                break;
+            }
+            fed.next = next;
         }
-        answers
+        fed
     }
 
     /// The rig that was solved last.
@@ -311,8 +343,14 @@ impl Session {
         self.solved.then(|| Rig::from_answers(cameras as usize, views as usize, &self.transforms, &self.chains))
     }
 
-    /// The record: sixteen masks, the views, the cameras and the reference.
+    /// The record: a mask for each camera, the views, the cameras and the reference. With [`Session::buffer`] it is all that a session
+    /// holds: both saved, [`Session::from_parts`] takes it up again.
     pub fn record(&self) -> &[u64; RECORD_WORDS] {
         &self.record
+    }
+
+    /// The poses that are held, a cell's seven doubles from 7 * (view * [`MAX_CAMERAS`] + camera).
+    pub fn buffer(&self) -> &[f64] {
+        &self.buffer
     }
 }

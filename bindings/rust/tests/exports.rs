@@ -29,8 +29,12 @@ fn roots() {
     }
     assert_eq!(sqrt(2.0).to_bits(), 0x3ff6_a09e_667f_3bcd);
     assert_eq!(sqrt(f64::from_bits(1)), 2f64.powi(-537));
-    for x in [-1.0, f64::NEG_INFINITY, f64::NAN, -1e-320] {
-        assert!(sqrt(x).is_nan(), "root of {x}");
+    for x in [-1.0, f64::NEG_INFINITY, -1e-320] {
+        assert_eq!(sqrt(x).to_bits(), 0x7ff8_0000_0000_0000, "root of {x}");
+        assert!(x.sqrt().is_nan());
+    }
+    for bits in [0x7ff8_0000_0000_0000, 0xfff8_0000_0000_0abc] {
+        assert_eq!(sqrt(f64::from_bits(bits)).to_bits(), bits);
     }
 }
 
@@ -339,6 +343,79 @@ fn step_obeys() {
     assert_eq!(lent.record[15], 1 << 63);
     assert_eq!(lent.buffer.split_off(7 * (63 * 16 + 15)), STANDING);
     assert!(lent.buffer.iter().all(|&x| x == GUARD));
+}
+
+#[test]
+fn streams_in_pieces() {
+    let commands = [size(1, 1, 0), place(0, 0, STANDING), SOLVE.to_vec()];
+    let stream = commands.concat();
+    let cut_off = |at: usize| Err(Refusal { number: 11, detail: at as u32 });
+    let obeyed = [Ok(Accepted::Held), Ok(Accepted::Held), Ok(Accepted::Solved)];
+    // Every two pieces: a command that is cut off is told by 11, and obeyed at the same offset once the stream is longer.
+    for cut in 0..=stream.len() {
+        let mut session = Session::new();
+        let first = session.feed_from(&stream[..cut], 0);
+        let whole = [4, 63, 64].iter().filter(|&&end| end <= cut).count();
+        let last = [0, 4, 63, 64][whole];
+        assert_eq!(first.next, last, "cut at {cut}");
+        assert_eq!(first.answers[..whole], obeyed[..whole]);
+        assert_eq!(first.answers[whole..], vec![cut_off(last); (last != cut) as usize]);
+        let rest = session.feed_from(&stream, first.next);
+        assert_eq!(rest, Fed { answers: obeyed[whole..].to_vec(), next: stream.len() });
+        // The same where the bytes of obeyed commands are dropped.
+        let mut session = Session::new();
+        session.feed_from(&stream[..cut], 0);
+        assert_eq!(session.feed_from(&stream[last..], 0).answers, obeyed[whole..]);
+    }
+    // A byte at a time.
+    let (mut session, mut next) = (Session::new(), 0);
+    for length in 0..=stream.len() {
+        next = session.feed_from(&stream[..length], next).next;
+    }
+    assert_eq!((next, session.rig().map(|rig| rig.rig_se3_target)), (stream.len(), Some(vec![STANDING])));
+    // Past the end, and after a refusal that ends the stream.
+    assert_eq!(session.feed_from(&stream, 70), Fed { answers: vec![cut_off(stream.len())], next: 70 });
+    assert_eq!(session.feed_from(&[9, 3], 0), Fed { answers: vec![Err(Refusal { number: 10, detail: 9 })], next: 2 });
+}
+
+#[test]
+fn sessions_are_saved() {
+    let shifted = [4.0, 2.0, 3.0, 0.0, 0.0, 0.0, 1.0];
+    let commands = [
+        size(2, 2, 1),
+        place(0, 0, STANDING),
+        place(0, 1, shifted),
+        place(1, 1, STANDING),
+        SOLVE.to_vec(),
+        place(1, 0, shifted),
+        SOLVE.to_vec(),
+    ];
+    let mut through = Session::new();
+    let expected: Vec<_> = commands.iter().map(|command| (through.step(command, 0), through.rig())).collect();
+    assert_eq!(expected.iter().filter(|(reply, _)| reply.answer == Ok(Accepted::Solved)).count(), 2);
+    assert_ne!(expected[4].1, expected[6].1);
+    // Saved after each command and taken up again: the same replies, the same rig, the same parts.
+    let mut session = Session::new();
+    for (command, (reply, rig)) in commands.iter().zip(expected) {
+        session = Session::from_parts(*session.record(), session.buffer());
+        assert_eq!(session.rig(), None);
+        assert_eq!(session.step(command, 0), reply);
+        if reply.answer == Ok(Accepted::Solved) {
+            assert_eq!(session.rig(), rig);
+        }
+    }
+    assert_eq!((session.record(), session.buffer()), (through.record(), through.buffer()));
+    // Parts that hold no session.
+    for mut spoilt in [Session::from_parts([1; RECORD_WORDS], session.buffer()), Session::from_parts(*session.record(), vec![0.0; 7])] {
+        assert_eq!(spoilt.feed(&SOLVE), [Err(Refusal { number: 5, detail: 0 })]);
+    }
+}
+
+#[test]
+fn refusals_are_told() {
+    let told = |number, detail| Refusal { number, detail }.to_string();
+    assert_eq!(told(7, 3), "cell 3 (view * cameras + camera), or pose 3 of a list, has a number that is not finite");
+    assert_eq!(told(12, 513), "view 2, camera 1 is outside the rig");
 }
 
 // ---- no memory at all

@@ -1,4 +1,5 @@
 -- The definitions that the contracts of `arithmetic` cite, one module a concept. Definitions only; their laws are in proofs/.
 pub mod Double
 pub mod Pose
+pub mod Numbers
 pub mod Rows

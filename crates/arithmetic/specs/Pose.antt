@@ -104,3 +104,7 @@ unfoldable pub poseAt : List Float → ℕ → Pose
 poseAt l at =
     pose (vec3 (getD l at nan) (getD l (at + 1) nan) (getD l (at + 2) nan))
     (quaternion (getD l (at + 3) nan) (getD l (at + 4) nan) (getD l (at + 5) nan) (getD l (at + 6) nan))
+
+-- What stands past the end of a list of poses.
+abbrev pub nowhere : Pose
+nowhere = pose (vec3 nan nan nan) (quaternion nan nan nan nan)

@@ -8,16 +8,15 @@ use mathlib.Core.Bool.{Bool, true, false, not, cond}
 use mathlib.Core.Option.{Option, none, some}
 use lib.ListN.{length, take, getD}
 use lib.Seq.{take-suc, take-all, length-take-le}
-use Rattle.arithmetic.specs.Pose.{finitePose}
+use Rattle.arithmetic.specs.Pose.{finitePose, nowhere}
 use Rattle.arithmetic.specs.declared.pose.Pose.{Pose}
-use Rattle.average.specs.Average.{taken, plusPose}
-use Rattle.average.proofs.Averaging.{taken-append}
+use Rattle.mean.specs.Inner.Taking.{taken, plusPose}
+use Rattle.mean.proofs.Averaging.{taken-append}
 use Rattle.lists.specs.Finding.{lowest}
-use Rattle.inputs.specs.Finding.{foundOf}
+use Rattle.inputs.specs.Inner.Finding.{foundOf}
 use Rattle.inputs.specs.declared.Found.the-variants.{At, Nothing}
-use Rattle.extrinsics.specs.Placed.{nowhere}
-use Rattle.averaging.specs.Gathered.{maxPoses, isNotFinite, gatheredTo, gathered, unreadOf, marked, withPose}
-use Rattle.averaging.specs.Entry.{lowestNotFinite}
+use Rattle.averaging.specs.Inner.Gathered.{gatheredTo, gathered, unreadOf, marked, withPose}
+use Rattle.averaging.specs.Entry.{maxPoses, isNotFinite, lowestNotFinite}
 use Rattle.averaging.specs.declared.list.Gathered.{Gathered}
 
 pub gatheredTo-zero : (l : List Pose) → unreadOf (length l) ≡ gatheredTo l 0

@@ -6,12 +6,11 @@ use mathlib.Core.Option.{none, some}
 use mathlib.Core.List.{List}
 use borrow.Author.Tests.{eq-eqb, ne-eqb, lt-ltb, le-ltb}
 use lib.ListN.{length}
-use Rattle.average.specs.Average.{averageIsometries}
+use Rattle.mean.specs.Average.{averageIsometries}
 use Rattle.arithmetic.specs.declared.pose.Pose.{Pose}
 use Rattle.refusal.specs.Table.{refuseIf, refuseAt, orElse, firstOf}
 use Rattle.refusal.specs.declared.Refusal.the-variants.{InsufficientData, TooMany, NotFinite}
-use Rattle.averaging.specs.Gathered.{maxPoses}
-use Rattle.averaging.specs.Entry.{lowestNotFinite, averageRefusal, averagedBy, averagedOf}
+use Rattle.averaging.specs.Entry.{maxPoses, lowestNotFinite, averageRefusal, averagedBy, averagedOf}
 use Rattle.averaging.specs.declared.Averaged.the-variants.{Refused, Mean}
 
 pub averagedOf-empty : (l : List Pose) → length l ≡ 0 → averagedOf l ≡ Refused InsufficientData

@@ -1,21 +1,28 @@
 -- The public averaging entry, by document 01, "Averaging": "It refuses an empty list with 1, more than 64 with 2, and a non-finite
--- number with 7, detail being the lowest pose." Rests on the average of `average` and the table of `refusal`.
+-- number with 7, detail being the lowest pose." Rests on the average of `mean` and the table of `refusal`.
 use Prim.Native.Nat.{ℕ}
-use mathlib.Core.Path.{_≡_}
+use mathlib.Core.Bool.{Bool, not}
 use mathlib.Core.Option.{Option, none, some}
 use mathlib.Core.List.{List, [], _∷_}
-use lib.ListN.{length}
+use lib.ListN.{length, getD}
 use lib.Dec.{eqb, ltb}
-use Rattle.average.specs.Average.{averageIsometries}
+use Rattle.mean.specs.Average.{averageIsometries}
+use Rattle.arithmetic.specs.Pose.{finitePose, nowhere}
 use Rattle.arithmetic.specs.declared.pose.Pose.{Pose}
 use Rattle.refusal.specs.Table.{refuseIf, refuseAt, firstOf}
 use Rattle.refusal.specs.declared.Refusal.{Refusal}
 use Rattle.refusal.specs.declared.Refusal.the-variants.{InsufficientData, TooMany, NotFinite}
 use Rattle.lists.specs.Finding.{lowest}
-use Rattle.averaging.specs.Gathered.{maxPoses, isNotFinite, gathered}
-use Rattle.averaging.specs.declared.list.Gathered.{Gathered}
 use Rattle.averaging.specs.declared.Averaged.{Averaged}
 use Rattle.averaging.specs.declared.Averaged.the-variants.{Refused, Mean}
+
+-- The most poses that one average takes.
+abbrev pub maxPoses : ℕ
+maxPoses = 64
+
+-- Pose i of the list holds a number that is not finite.
+abbrev pub isNotFinite : List Pose → ℕ → Bool
+isNotFinite l i = not (finitePose (getD l i nowhere))
 
 unfoldable pub lowestNotFinite : List Pose → Option ℕ
 unfolding lowest
@@ -39,7 +46,3 @@ averagedBy none mean = Mean mean
 unfoldable pub averagedOf : List Pose → Averaged
 unfolding averageRefusal averagedBy averageIsometries
 averagedOf l = averagedBy (averageRefusal l) (averageIsometries l)
-
--- The answer, by what was gathered of a list: it is that of the list.
-abbrev pub AnswersFor : Gathered → Averaged → Type 0
-AnswersFor g o = (l : List Pose) → g ≡ gathered l → o ≡ averagedOf l

@@ -1,6 +1,7 @@
 // The public averaging entry: the average of a lent list of pose records, or why there is none.
 ghost use mathlib.Core.Path.{_≡_};
-ghost use Rattle.averaging.specs.Entry.{averagedOf, AnswersFor};
+ghost use Rattle.averaging.specs.Entry.{averagedOf};
+ghost use Rattle.averaging.specs.Inner.Gathered.{AnswersFor};
 
 pub mod list;
 

@@ -2,10 +2,11 @@
 // number that is not finite, and how many poses there are. Only `read_poses` walks the lent list.
 ghost use Prim.Native.Nat.{_<_, min};
 ghost use mathlib.Core.Path.{_≡_};
-ghost use Rattle.averaging.specs.Gathered.{maxPoses, gathered, unreadOf, marked, withPose};
+ghost use Rattle.averaging.specs.Inner.Gathered.{gathered, unreadOf, marked, withPose};
+ghost use Rattle.averaging.specs.Entry.{maxPoses};
 use arithmetic::pose::Pose;
-use average::Average;
 use inputs::Found;
+use mean::Average;
 
 // The most poses that one average takes: one for each view of a rig.
 pub const MOST_POSES: usize = 64;

@@ -10,11 +10,11 @@ use lib.ListN.{getD, set, replicate, length-set, getD-replicate}
 use lib.Seq.{getD-set-same, getD-set-other}
 use lib.Dec.{T}
 use borrow.Author.Tests.{ne-eqb}
-use Rattle.limits.specs.Limits.{maxCameras, notPlacedByte}
+use Rattle.limits.specs.Limits.{maxCameras}
+use Rattle.chains.specs.Inner.Trees.{notPlacedByte, parentByte, linksByte, treeOf}
 use Rattle.lists.specs.Finding.{count}
 use Rattle.chains.specs.Layers.{Spot, notPlaced, inLayer, startSpot, layers}
-use Rattle.chains.specs.Trees.{parentByte, linksByte, treeOf}
-use Rattle.chains.specs.Search.{Usable, Reached}
+use Rattle.chains.specs.Inner.Search.{Usable, Reached}
 use Rattle.chains.specs.declared.Search.{Search}
 use Rattle.lists.proofs.Counting.{count-le, count-some, count-reaches, count-until, count-alone}
 use Rattle.chains.proofs.Placing.{spot, ofLayer, spot-zero, spot-outside, spot-reference, links-below-cameras, inLayer-placed, placed-inLayer, layersTo-stays}

@@ -11,7 +11,7 @@ use Rattle.chains.specs.Shared.{shared}
 use Rattle.lists.specs.Masks.{inMask}
 use Rattle.chains.specs.Masks.{sharedBy}
 use Rattle.chains.specs.Layers.{Spot, isPlaced, parentOf, linksOf, spotAt, layers}
-use Rattle.chains.specs.Trees.{parentByte, linksByte, treeOf, parentAt, linksAt}
+use Rattle.chains.specs.Inner.Trees.{parentByte, linksByte, treeOf, parentAt, linksAt}
 use Rattle.chains.proofs.TreeBytes.{linksByte-linksOf, parentByte-parentOf, treeOf-links, treeOf-parent}
 use Rattle.chains.proofs.Theorem.{layers-agree}
 use Rattle.chains.proofs.Bits.{sharedBy-shared}

@@ -12,10 +12,10 @@ use mathlib.Core.List.{List}
 use lib.ListN.{getD}
 use lib.Dec.{T, ltb, leb}
 use borrow.Author.Tests.{lt-ltb, le-ltb, le-leb, lt-leb, leb-false, ne-eqb}
-use Rattle.limits.specs.Limits.{notPlacedByte}
+use Rattle.chains.specs.Inner.Trees.{notPlacedByte}
 use Rattle.lists.specs.Finding.{count}
 use Rattle.chains.specs.Layers.{Spot, inLayer, takeIfMore, mostViews, linkedInLayer, parentInLayer}
-use Rattle.chains.specs.Search.{foundByte, viewsToPass, firstMost}
+use Rattle.chains.specs.Inner.Search.{foundByte, viewsToPass, firstMost}
 use Rattle.lists.proofs.Counting.{count-reaches}
 use Rattle.chains.proofs.MostViews.{Found, mostViews-found}
 use Rattle.chains.proofs.Placing.{linkedInLayer-parts}

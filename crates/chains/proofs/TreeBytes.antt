@@ -6,7 +6,7 @@ use lib.ListN.{getD}
 use lib.Dec.{T}
 use Rattle.limits.specs.Limits.{maxCameras}
 use Rattle.chains.specs.Layers.{Spot, notPlaced, placed, isPlaced, parentOf, linksOf, spotAt}
-use Rattle.chains.specs.Trees.{parentByte, linksByte, treeOf}
+use Rattle.chains.specs.Inner.Trees.{parentByte, linksByte, treeOf}
 use Rattle.lists.proofs.Tabulated.{getD-tabulate}
 
 -- ---- the bytes of one spot

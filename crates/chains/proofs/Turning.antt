@@ -12,12 +12,12 @@ use mathlib.Core.List.{List}
 use lib.ListN.{length, getD, set}
 use lib.Seq.{getD-set-same, getD-set-other}
 use lib.Dec.{T}
-use Rattle.limits.specs.Limits.{maxCameras, notPlacedByte}
+use Rattle.limits.specs.Limits.{maxCameras}
+use Rattle.chains.specs.Inner.Trees.{notPlacedByte, parentByte, linksByte, treeOf}
 use Rattle.lists.specs.Finding.{count}
 use Rattle.chains.specs.Layers.{Spot, notPlaced, placed, inLayer, nextSpot, layersTo}
 use Rattle.lists.specs.Lists.{tabulate}
-use Rattle.chains.specs.Trees.{parentByte, linksByte, treeOf}
-use Rattle.chains.specs.Search.{foundByte, firstMost, Reached}
+use Rattle.chains.specs.Inner.Search.{foundByte, firstMost, Reached}
 use Rattle.chains.specs.declared.Tree.{Tree}
 use Rattle.chains.specs.declared.Search.{Search}
 use Rattle.lists.proofs.Counting.{count-le, count-before}

@@ -5,5 +5,4 @@ pub mod Chains
 pub mod Layers
 pub mod Layered
 pub mod Masks
-pub mod Trees
-pub mod Search
+pub mod Inner

@@ -7,8 +7,8 @@ ghost use lib.ListN.{getD};
 ghost use Rattle.limits.specs.Limits.{maxCameras};
 ghost use Rattle.chains.specs.Masks.{viewsOfBoth, sharedBy};
 ghost use Rattle.chains.specs.Layers.{layers};
-ghost use Rattle.chains.specs.Trees.{treeOf};
-ghost use Rattle.chains.specs.Search.{foundByte, firstMost, Usable, AtLayerZero, OneLayerMore};
+ghost use Rattle.chains.specs.Inner.Trees.{treeOf};
+ghost use Rattle.chains.specs.Inner.Search.{foundByte, firstMost, Usable, AtLayerZero, OneLayerMore};
 use limits::MAX_CAMERAS;
 
 // Stands for the parent and for the links of a camera that is not placed.

@@ -1,16 +1,17 @@
--- Laws of cutting a stream into commands, for any table of widths in which every command takes a byte or more: a whole command lies within the stream
+-- Laws of cutting a stream into commands, for any table of widths; where every command takes a byte or more, a whole command lies within the stream
 -- (`framed-whole`), any number of reads that is enough gives the same (`framesFrom-enough`), and the commands stand one after the other to where the
 -- stream ends (`frames-follow`). Assumes nothing.
 use Prim.Native.Nat.{ℕ, zero, suc, _+_, _≤_, _<_}
-use native.Mathlib.Decide.{ℕ-discrete}
-use native.Mathlib.Omega.{arith}
+use native.Mathlib.Decide.{ℕ-discrete, decLe}
+use native.Mathlib.Omega.{arith, by-contra}
 use mathlib.Core.Path.{_≡_, refl, sym, ap, subst, _∙_}
 use mathlib.Core.Bool.{Bool, true, false, cond}
 use mathlib.Core.Option.{Option, none, some}
 use mathlib.Core.List.{List, [], _∷_}
-use lib.ListN.{length, getD}
+use lib.ListN.{length, getD, drop, length-drop}
+use lib.Seq.{getD-drop}
 use lib.Dec.{leb}
-use borrow.Author.Tests.{leb-true, eq-eqb, ne-eqb}
+use borrow.Author.Tests.{leb-true, le-leb, lt-leb, eq-eqb, ne-eqb}
 use Rattle.command.specs.Framing.{Framed, whole, short, foreign, framedBy, frame, clean, unknownByte, brokenAt, Frames, frames, framed, framesFrom, SomeByte, Follow, no-more, one-frame, FramesEnd, Frame}
 
 -- ---- one command
@@ -37,6 +38,49 @@ module _ (widths : ℕ → Option ℕ) (some-byte : SomeByte widths) (stream : L
 
   pub framed-whole : (at w : ℕ) → framed widths stream at ≡ whole w → (0 < w) × (at + w ≤ length stream)
   framed-whole at w e = subst (Within stream at) e (framed-within at)
+
+-- ---- by the bytes alone
+
+leb-agree : (a b c d : ℕ) → (a ≤ b → c ≤ d) → (c ≤ d → a ≤ b) → leb a b ≡ leb c d
+leb-agree a b c d forth back = go (decLe a b)
+  where
+    go : Dec (a ≤ b) → leb a b ≡ leb c d
+    go (yes h) = le-leb a b h ∙ sym (le-leb c d (forth h))
+    go (no h) = lt-leb a b (omega arith) ∙ sym (lt-leb c d (by-contra (suc d) c (λ l. h (back (omega arith)))))
+
+framedBy-drop : (n : ℕ) (stream : List ℕ) (at : ℕ) (o : Option ℕ) → n ≤ length stream → framedBy (drop n stream) at o ≡ framedBy stream (n + at) o
+unfolding framedBy
+framedBy-drop n stream at none h = ap foreign (getD-drop n stream at 0)
+framedBy-drop n stream at (some w) h =
+    ap (λ (b : Bool). cond b (whole w) short)
+    (leb-agree (at + w) (length (drop n stream)) (n + at + w) (length stream)
+    (λ l. omega (arith, length-drop n stream)) (λ l. omega (arith, length-drop n stream)))
+
+framedBy-own : (stream : List ℕ) (at w : ℕ) (o : Option ℕ) → framedBy stream at o ≡ whole w → o ≡ some w
+unfolding framedBy
+framedBy-own stream at w none e = absurd (let z : _≡_ {A = ℕ} 0 1 = cc in omega arith)
+framedBy-own stream at w (some v) e = go (leb (at + v) (length stream)) e
+  where
+    go : (b : Bool) → cond b (whole v) short ≡ whole w → some v ≡ some w
+    go true f = cc
+    go false f = absurd (let z : _≡_ {A = ℕ} 0 1 = cc in omega arith)
+
+module _ (widths : ℕ → Option ℕ) where
+  -- What stands behind the first n bytes is framed as it is where these stand before it.
+  pub framed-drop : (n : ℕ) (stream : List ℕ) (at : ℕ) → n ≤ length stream → framed widths (drop n stream) at ≡ framed widths stream (n + at)
+  unfolding framed
+  framed-drop n stream at h =
+      ap (λ (byte : ℕ). framedBy (drop n stream) at (widths byte)) (getD-drop n stream at 0)
+      ∙ framedBy-drop n stream at (widths (getD stream (n + at) 0)) h
+
+  -- A command that is whole goes by its first byte, and is whole wherever that byte stands and as many bytes do.
+  pub framed-own : (stream stream′ : List ℕ) (at w : ℕ) → framed widths stream at ≡ whole w → getD stream′ at 0 ≡ getD stream at 0
+      → at + w ≤ length stream′ → framed widths stream′ at ≡ whole w
+  unfolding framed framedBy
+  framed-own stream stream′ at w e same fits =
+      ap (λ (byte : ℕ). framedBy stream′ at (widths byte)) same
+      ∙ ap (framedBy stream′ at) (framedBy-own stream at w (widths (getD stream at 0)) e)
+      ∙ ap (λ (b : Bool). cond b (whole w) short) (le-leb (at + w) (length stream′) fits)
 
 -- ---- the commands from an offset on
 

@@ -1,5 +1,4 @@
--- Laws of tests, words, offered poses, framing and decoding, beside the proofs of the functions. Assumes nothing.
-pub mod Tests
+-- Laws of words, offered poses, framing and decoding, beside the proofs of the functions. Assumes nothing.
 pub mod Words
 pub mod Patterns
 pub mod OfferedPoses

@@ -6,7 +6,7 @@ use Rattle.arithmetic.specs.Pose.{finiteVec, finiteQuat, finitePose}
 use Rattle.arithmetic.specs.declared.pose.Vec3.{Vec3}
 use Rattle.arithmetic.specs.declared.pose.Quaternion.{Quaternion}
 use Rattle.arithmetic.specs.declared.pose.Pose.{Pose}
-use Rattle.command.proofs.Tests.{and-true}
+use Rattle.lists.proofs.Tests.{and-true}
 
 pub record FiniteVec (v : Vec3) : Type 0 where
   pub finite-x : finite (v .x) ≡ true

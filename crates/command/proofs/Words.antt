@@ -4,7 +4,7 @@ use native.Mathlib.Omega.{arith}
 use mathlib.Core.Path.{_≡_}
 use mathlib.Core.List.{List}
 use Rattle.command.specs.Command.{wordAt}
-use Rattle.command.specs.Parts.{halfAt}
+use Rattle.command.specs.Inner.Parts.{halfAt}
 
 pub wordAt-halves : (bytes : List ℕ) (at : ℕ) → wordAt bytes at ≡ halfAt bytes at + 4294967296 * halfAt bytes (at + 4)
 unfolding wordAt

@@ -1,15 +1,20 @@
 -- The bytes of a command are read back as that command (`parse-bytesOf`): eight bytes, low byte first, are the number they were made from
--- (`word-lowBytes`), and a double is the one with its own bits. Where the operands are bytes, all are (`bytesOf-below`). Assumes nothing.
+-- (`word-lowBytes`), and a double is the one with its own bits. Where the operands are bytes, all are (`bytesOf-below`), and the other way about
+-- (`commandAt-bytes`). Assumes nothing.
 use Prim.Native.Nat.{ℕ, zero, suc, _+_, _*_, _/_, _%_, _<_}
+use native.Mathlib.Decide.{decLt}
 use native.Mathlib.Omega.{arith}
 use mathlib.Core.Path.{_≡_, refl, ap, _∙_}
+use mathlib.Core.Bool.{Bool, true, false, cond}
 use mathlib.Core.List.{List, [], _∷_, _++_}
-use lib.ListN.{length, getD, length-append}
-use lib.Dec.{T}
+use lib.ListN.{length, getD, take, drop, length-append, length-take, List·getD-eq-default}
+use lib.Seq.{getD-take, getD-drop}
+use lib.Dec.{T, eqb}
 use lib.Ieee.{Float, binary64, ofBits, toBits, fits}
 use lib.Ieee.Bits.{ofBits-toBits, toBits-lt}
 use Rattle.arithmetic.specs.declared.pose.Pose.{Pose}
-use Rattle.command.specs.Command.{size, place, Command, edit, solve, wordAt, doubleAt, offeredPose, widthOf, complete, parse}
+use Rattle.command.specs.Framing.{frame}
+use Rattle.command.specs.Command.{size, place, Command, edit, solve, sizeByte, poseByte, wordAt, doubleAt, offeredPose, widthOf, decode, commandAt, complete, parse}
 use Rattle.command.specs.Writing.{lowBytes, doubleBytes, poseBytesOf, bytesOf, Doubles, OfDoubles, OfBytes}
 use Rattle.command.proofs.Decoding.{parse-size, parse-place, parse-solve}
 
@@ -151,3 +156,26 @@ below-command solve h = below-more 3 [] (omega arith) below-none
 
 pub bytesOf-below : (command : Command) → OfBytes command → (i : ℕ) → getD (bytesOf command) i 0 < 256
 bytesOf-below command h = below-command command h .each
+
+-- ---- and what is read from bytes names bytes
+
+decode-bytes : (l : List ℕ) → ((i : ℕ) → getD l i 0 < 256) → OfBytes (decode l)
+unfolding decode
+decode-bytes l bytes = go (eqb (getD l 0 0) sizeByte) (eqb (getD l 0 0) poseByte)
+  where
+    go : (a b : Bool) → OfBytes
+        (cond a (edit (size (getD l 1 0) (getD l 2 0) (getD l 3 0))) (cond b (edit (place (getD l 1 0) (getD l 2 0) (offeredPose l 3))) solve))
+    go true b = (bytes 1, bytes 2, bytes 3)
+    go false true = (bytes 1, bytes 2)
+    go false false = tt
+
+pub commandAt-bytes : (stream : List ℕ) → ((i : ℕ) → getD stream i 0 < 256) → (at w : ℕ) → OfBytes (commandAt stream (frame at w))
+unfolding commandAt
+commandAt-bytes stream bytes at w = decode-bytes (take w (drop at stream)) each
+  where
+    each : (i : ℕ) → getD (take w (drop at stream)) i 0 < 256
+    each i = go (decLt i w)
+      where
+        go : Dec (i < w) → getD (take w (drop at stream)) i 0 < 256
+        go (yes h) = rw (getD-take w (drop at stream) i 0 h, getD-drop at stream i 0) (bytes (at + i))
+        go (no h) = rw (List·getD-eq-default (take w (drop at stream)) 0 {n = i} (omega (arith, length-take w (drop at stream)))) (omega arith)

@@ -1,15 +1,15 @@
 -- Commands in a stream of bytes, by document 01, "A stream arrives": "A command is one byte followed by operands of fixed widths. Floats are the 64 bits of an IEEE 754 double, low byte first."
--- Rests on the poses of `arithmetic`.
+-- Rests on the poses of `arithmetic`, and on how a table of widths cuts a stream, in `Framing`.
 use Prim.Native.Nat.{ℕ, _+_, _*_}
 use mathlib.Core.Bool.{cond}
 use mathlib.Core.Option.{Option, none, some}
 use mathlib.Core.List.{List, [], _∷_}
-use lib.ListN.{length, getD}
-use lib.Dec.{eqb, leb}
+use lib.ListN.{getD, take, drop}
+use lib.Dec.{eqb}
 use lib.Ieee.{Float, binary64, ofBits}
 use Rattle.arithmetic.specs.Pose.{vec3, quaternion, pose}
 use Rattle.arithmetic.specs.declared.pose.Pose.{Pose}
-use Rattle.command.specs.Framing.{Framed, whole, short, foreign, Frame}
+use Rattle.command.specs.Framing.{Framed, whole, short, foreign, Frame, frame, framed}
 
 -- A command edits the session, or is Solve, which answers from it: "0x01 Size: views, cameras, reference; one byte each. 0x02 Pose: view, camera, one
 -- byte each, then seven floats. 0x03 Solve: no operands."
@@ -70,21 +70,24 @@ widthOf byte =
     (cond (eqb byte poseByte) (some poseWidth)
     (cond (eqb byte solveByte) (some solveWidth) none))
 
--- The command that stands whole at an offset: which one is told by its first byte, one of the table.
-unfoldable pub decode : List ℕ → ℕ → Command
+-- The command that these bytes are, from the first to the last: which one is told by the first byte, one of the table.
+unfoldable pub decode : List ℕ → Command
 unfolding offeredPose
-decode stream at =
-    let byte = getD stream at 0 in
-    let operand : ℕ → ℕ = λ i. getD stream (at + i) 0 in
-    cond (eqb byte sizeByte) (edit (size (operand 1) (operand 2) (operand 3)))
-    (cond (eqb byte poseByte) (edit (place (operand 1) (operand 2) (offeredPose stream (at + 3))))
+decode bytes =
+    let byte : ℕ → ℕ = λ i. getD bytes i 0 in
+    cond (eqb (byte 0) sizeByte) (edit (size (byte 1) (byte 2) (byte 3)))
+    (cond (eqb (byte 0) poseByte) (edit (place (byte 1) (byte 2) (offeredPose bytes 3)))
     solve)
 
--- The commands at these places of a stream.
-unfoldable pub commandsAt : List ℕ → List Frame → List Command
+-- The command at a place of a stream, and those at several.
+unfoldable pub commandAt : List ℕ → Frame → Command
 unfolding decode
+commandAt stream here = decode (take (here .width) (drop (here .offset) stream))
+
+unfoldable pub commandsAt : List ℕ → List Frame → List Command
+unfolding commandAt
 commandsAt stream [] = []
-commandsAt stream (here ∷ later) = decode stream (here .offset) ∷ commandsAt stream later
+commandsAt stream (here ∷ later) = commandAt stream here ∷ commandsAt stream later
 
 -- What stands at an offset before the end: a command with its width, one that the stream ends within, or a byte that begins none.
 pub data Parsed : Type 0 where
@@ -92,20 +95,13 @@ pub data Parsed : Type 0 where
   broken : Parsed
   unknown : ℕ → Parsed
 
--- By the framing: what is whole is that command.
-unfoldable pub decoded : Command → Framed → Parsed
-decoded command (whole width) = complete command width
-decoded command short = broken
-decoded command (foreign byte) = unknown byte
-
-unfoldable pub wholeIf : List ℕ → ℕ → ℕ → Command → Parsed
-wholeIf stream at width command = cond (leb (at + width) (length stream)) (complete command width) broken
+-- By the framing: what is whole is the command that its bytes are.
+unfoldable pub decoded : List ℕ → ℕ → Framed → Parsed
+unfolding commandAt
+decoded stream at (whole width) = complete (commandAt stream (frame at width)) width
+decoded stream at short = broken
+decoded stream at (foreign byte) = unknown byte
 
 unfoldable pub parse : List ℕ → ℕ → Parsed
-unfolding wholeIf offeredPose
-parse stream at =
-    let byte = getD stream at 0 in
-    let operand : ℕ → ℕ = λ i. getD stream (at + i) 0 in
-    cond (eqb byte sizeByte) (wholeIf stream at sizeWidth (edit (size (operand 1) (operand 2) (operand 3))))
-    (cond (eqb byte poseByte) (wholeIf stream at poseWidth (edit (place (operand 1) (operand 2) (offeredPose stream (at + 3)))))
-    (cond (eqb byte solveByte) (wholeIf stream at solveWidth solve) (unknown byte)))
+unfolding framed widthOf decoded
+parse stream at = decoded stream at (framed widthOf stream at)

@@ -2,5 +2,5 @@
 -- functions promise each other. Definitions only; their laws are in proofs/.
 pub mod Framing
 pub mod Command
-pub mod Parts
 pub mod Writing
+pub mod Inner

@@ -6,7 +6,7 @@ ghost use lib.ListN.{length};
 ghost use lib.Ieee.Scale.{finite};
 ghost use Rattle.arithmetic.specs.Pose.{finitePose};
 ghost use Rattle.command.specs.Command.{wordAt, doubleAt, offeredPose};
-ghost use Rattle.command.specs.Parts.{halfAt, poseBytes};
+ghost use Rattle.command.specs.Inner.Parts.{halfAt, poseBytes};
 use arithmetic::pose::Pose;
 use arithmetic::pose::Quaternion;
 use arithmetic::pose::Vec3;

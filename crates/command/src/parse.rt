@@ -3,7 +3,7 @@ ghost use Prim.Native.Nat.{_<_};
 ghost use mathlib.Core.Path.{_≡_};
 ghost use lib.ListN.{length};
 ghost use Rattle.command.specs.Command.{widthOf};
-ghost use Rattle.command.specs.Parts.{widthOrZero, ParsedAs};
+ghost use Rattle.command.specs.Inner.Parts.{widthOrZero, ParsedAs};
 
 // The bytes that begin commands.
 const SIZE_BYTE: u8 = 1;

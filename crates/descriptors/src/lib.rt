@@ -1,10 +1,11 @@
-// Reading a descriptor to its end, and writing to one: a call that was interrupted, or that found the descriptor not ready, is made again, and any other
-// failure is told. No contract can say which bytes are read or written.
+// Reading a descriptor to its end, and writing to one: a call that was interrupted is made again, and so is, after a pause, one that found the descriptor
+// not ready; any other failure is told. No contract can say which bytes are read or written.
 ghost use Prim.Native.Nat.{_-_, _≤_};
 ghost use lib.ListN.{length};
-ghost use Rattle.descriptors.specs.Moved.{MovedWithin, ReadWithin};
+ghost use Rattle.descriptors.specs.Moved.{MovedWithin, ReadWithin, WrittenWhole};
 use libc::EAGAIN;
 use libc::EINTR;
+use libc::types::timespec;
 
 // What one call came to.
 pub enum Moved {
@@ -24,8 +25,31 @@ pub enum Input {
     Failed,
 }
 
+// How a writing ended.
+pub enum Output {
+    // All was written, so many bytes by the counts that the calls answered.
+    Whole(usize),
+    Failed,
+}
+
 // Calls that are made at most, so that each loop ends: more than a machine makes in its life.
 const MOST_CALLS: u64 = 9223372036854775807;
+
+// How long is waited for a descriptor that is not ready, so that waiting leaves the processor to others: a millisecond.
+const PAUSE_NANOSECONDS: i64 = 1000000;
+
+// Waits; for a shorter time where a signal comes.
+fn pause() {
+    let asked = timespec {
+        tv_sec: 0,
+        tv_nsec: PAUSE_NANOSECONDS,
+    };
+    let mut left = timespec {
+        tv_sec: 0,
+        tv_nsec: 0,
+    };
+    libc::nanosleep(&asked, &mut left);
+}
 
 // What a call on these bytes came to, by its answer.
 fn told(answer: isize, bytes: &[u8]) -> Moved
@@ -36,8 +60,11 @@ fn told(answer: isize, bytes: &[u8]) -> Moved
     }
     if answer < 0 {
         let error = os::errno();
-        if (error == EINTR) | (error == EAGAIN) {
-            libc::sched_yield();
+        if error == EINTR {
+            return Moved::Again;
+        }
+        if error == EAGAIN {
+            pause();
             return Moved::Again;
         }
         return Moved::Failed;
@@ -81,13 +108,15 @@ pub fn read_to_end(fd: i32, memory: &mut [u8]) -> Input
     Input::Whole(done)
 }
 
-// Writes all of the bytes and answers true; or false where a call failed or took nothing, when some may have been written.
-pub fn write_whole(fd: i32, bytes: &[u8]) -> bool {
+// Writes all of the bytes; or fails where a call failed or took nothing, when some may have been written.
+pub fn write_whole(fd: i32, bytes: &[u8]) -> Output
+    ensures { λ r. ⌜ WrittenWhole r (now (bytes .entry)) ⌝ }
+{
     let mut done = 0usize;
     let mut calls = MOST_CALLS;
     while done < bytes.len() {
         if calls == 0 {
-            return false;
+            return Output::Failed;
         }
         calls -= 1;
         let answer = libc::write(fd, &bytes[done..]);
@@ -96,13 +125,13 @@ pub fn write_whole(fd: i32, bytes: &[u8]) -> bool {
                 done += put;
             }
             Moved::Nothing => {
-                return false;
+                return Output::Failed;
             }
             Moved::Again => {}
             Moved::Failed => {
-                return false;
+                return Output::Failed;
             }
         }
     }
-    true
+    Output::Whole(done)
 }

@@ -12,11 +12,13 @@ use Rattle.refusal.specs.Table.{firstOf}
 use Rattle.refusal.specs.declared.Refusal.{Refusal}
 use Rattle.refusal.specs.declared.Refusal.the-variants.{BadMark}
 use Rattle.limits.specs.Limits.{firstNeeds, secondNeeds}
-use Rattle.extrinsics.specs.Grid.{Grid}
+use Rattle.placing.specs.Grid.{Grid}
 use Rattle.extrinsics.specs.Outcome.{gridRefusal, Answers}
-use Rattle.inputs.specs.Inputs.{sizeRefusal, countRefusal, lengthRefusal, lowestBadMark, markRefusal, cellCount, inputRefusal, maskOf}
+use Rattle.inputs.specs.Inputs.{sizeRefusal, countRefusal, lengthRefusal, lowestBadMark, markRefusal, cellCount, inputRefusal}
+use Rattle.inputs.specs.Inner.Marks.{maskOf}
 use Rattle.extrinsics.specs.Direct.{directGrid, directRefusal, Direct}
-use Rattle.extrinsics.specs.Rig.{rigGrid, Fitting}
+use Rattle.placing.specs.Rig.{rigGrid}
+use Rattle.placing.specs.Inner.Fitting.{Fitting}
 use Rattle.extrinsics.specs.declared.Outcome.{Outcome}
 use Rattle.extrinsics.specs.declared.Outcome.the-variants.{Refused}
 use Rattle.inputs.proofs.Answering.{firstOf-some, firstOf-none, firstOf-none-all, AllNone, refuseAt-nothing, Sizes, sizeRefusal-none, Lengths, lengthRefusal-none}

@@ -8,14 +8,14 @@ use mathlib.Core.List.{List}
 use lib.Dec.{T}
 use lib.Ieee.{Float}
 use Rattle.lists.specs.Masks.{inMask}
-use Rattle.extrinsics.specs.Grid.{holds}
-use Rattle.extrinsics.specs.Rig.{rigGrid}
+use Rattle.placing.specs.Grid.{holds}
+use Rattle.placing.specs.Rig.{rigGrid}
 use Rattle.lists.specs.Finding.{lowest}
 use Rattle.extrinsics.specs.Outcome.{isEmptyView}
-use Rattle.extrinsics.specs.declared.grid.Rig.{Rig}
+use Rattle.placing.specs.declared.grid.Rig.{Rig}
 use Rattle.lists.proofs.Lowest.{lowest-passes, lowest-none-fails}
 use Rattle.extrinsics.proofs.MaskUnion.{InOneOf}
-use Rattle.extrinsics.proofs.ViewCells.{holds-inMask}
+use Rattle.placing.proofs.ViewCells.{holds-inMask}
 
 module _ (r : Rig) (floats : List Float) (held v : ℕ) (inside : v < r .views) (union : T (inMask held v) ↔ InOneOf (r .masks) (r .cameras) v) where
   pub isEmptyView-not-inMask : isEmptyView (rigGrid r floats) v ≡ not (inMask held v)

@@ -12,14 +12,15 @@ use lib.Dec.{eqb}
 use lib.Ieee.{Float}
 use Rattle.arithmetic.specs.Pose.{poseAt}
 use Rattle.limits.specs.Limits.{maxViews, maxCameras}
-use Rattle.extrinsics.specs.Grid.{Grid}
+use Rattle.placing.specs.Grid.{Grid}
 use Rattle.lists.specs.Masks.{inMask}
-use Rattle.inputs.specs.Inputs.{maskOf}
+use Rattle.inputs.specs.Inner.Marks.{maskOf}
 use Rattle.extrinsics.specs.Direct.{markedCell, directGrid}
-use Rattle.extrinsics.specs.Rig.{maskedCell, rigCell, rigGrid, Fitting}
-use Rattle.extrinsics.specs.declared.grid.Cell.{Cell}
-use Rattle.extrinsics.specs.declared.grid.Cell.the-variants.{Empty, Held}
-use Rattle.extrinsics.specs.declared.grid.Rig.{Rig}
+use Rattle.placing.specs.Rig.{maskedCell, rigCell, rigGrid}
+use Rattle.placing.specs.Inner.Fitting.{Fitting}
+use Rattle.placing.specs.declared.grid.Cell.{Cell}
+use Rattle.placing.specs.declared.grid.Cell.the-variants.{Empty, Held}
+use Rattle.placing.specs.declared.grid.Rig.{Rig}
 use Rattle.inputs.proofs.MarkedMasks.{maskOf-below, inMask-maskOf}
 use Rattle.lists.proofs.Tabulated.{tabulate-agree}
 

@@ -7,10 +7,10 @@ use mathlib.Core.Bool.{not}
 use lib.ListN.{getD}
 use lib.Dec.{eqb}
 use borrow.Author.Tests.{ne-eqb}
-use Rattle.limits.specs.Limits.{maxCameras, oneView, notPlacedByte}
+use Rattle.limits.specs.Limits.{maxCameras, oneView}
+use Rattle.chains.specs.Inner.Trees.{notPlacedByte, linksByte, treeOf}
 use Rattle.chains.specs.Layers.{Spot, notPlaced, placed, isPlaced, spotAt}
-use Rattle.extrinsics.specs.Grid.{Grid, sharedViews, spots, hasPlace}
-use Rattle.chains.specs.Trees.{linksByte, treeOf}
+use Rattle.placing.specs.Grid.{Grid, sharedViews, spots, hasPlace}
 use Rattle.lists.proofs.Tabulated.{getD-tabulate}
 use Rattle.chains.proofs.Theorem.{placed-final}
 

@@ -21,19 +21,20 @@ use Rattle.limits.specs.Limits.{oneView, firstNeeds, secondNeeds}
 use Rattle.lists.specs.Masks.{inMask}
 use Rattle.chains.specs.Masks.{sharedBy}
 use Rattle.chains.specs.Layers.{layers}
-use Rattle.extrinsics.specs.Grid.{Grid, holds, spots, hasPlace, parent, linkCount}
+use Rattle.placing.specs.Grid.{Grid, holds, spots, hasPlace, parent, linkCount}
 use Rattle.lists.specs.Lists.{gather}
-use Rattle.extrinsics.specs.Estimate.{transforms, chains, rigSe3Cam, rigSe3Target}
+use Rattle.placing.specs.Estimate.{transforms, chains, rigSe3Cam, rigSe3Target}
 use Rattle.lists.specs.Finding.{powerSum}
 use Rattle.extrinsics.specs.Outcome.{lowestNotFinite, notFinite, unreachedSet, unreached, lowestEmptyView, emptyView, gridRefusal, outcomeOf, answered, Answers}
-use Rattle.extrinsics.specs.Rig.{rigGrid, Fitting}
-use Rattle.extrinsics.specs.Placed.{Written}
+use Rattle.placing.specs.Rig.{rigGrid}
+use Rattle.placing.specs.Inner.Fitting.{Fitting}
+use Rattle.placing.specs.Inner.Placed.{Written}
 use Rattle.extrinsics.specs.declared.Outcome.the-variants.{Refused, Solved}
-use Rattle.extrinsics.specs.declared.grid.Rig.{Rig}
-use Rattle.extrinsics.proofs.Filling.{length-gather}
+use Rattle.placing.specs.declared.grid.Rig.{Rig}
+use Rattle.placing.proofs.Filling.{length-gather}
 use Rattle.chains.proofs.Reading.{layers-of-masks}
-use Rattle.extrinsics.proofs.ViewCells.{holds-inMask}
-use Rattle.extrinsics.proofs.Rooting.{AllPlaced}
+use Rattle.placing.proofs.ViewCells.{holds-inMask}
+use Rattle.placing.proofs.Rooting.{AllPlaced}
 use Rattle.inputs.proofs.Answering.{refuseAt-some, refuseAt-none, firstOf-some, firstOf-none}
 
 -- ---- the tree of a rig

@@ -11,12 +11,12 @@ use Rattle.arithmetic.specs.Pose.{poseAt}
 use Rattle.refusal.specs.Table.{firstOf}
 use Rattle.refusal.specs.declared.Refusal.{Refusal}
 use Rattle.lists.specs.Lists.{tabulate}
-use Rattle.extrinsics.specs.Grid.{Grid}
+use Rattle.placing.specs.Grid.{Grid}
 use Rattle.inputs.specs.Inputs.{cellCount, inputRefusal}
 use Rattle.extrinsics.specs.Outcome.{gridRefusal, Answers}
 use Rattle.extrinsics.specs.declared.Outcome.{Outcome}
-use Rattle.extrinsics.specs.declared.grid.Cell.{Cell}
-use Rattle.extrinsics.specs.declared.grid.Cell.the-variants.{Empty, Held}
+use Rattle.placing.specs.declared.grid.Cell.{Cell}
+use Rattle.placing.specs.declared.grid.Cell.the-variants.{Empty, Held}
 
 -- "As the Rust has it, a cell is either empty or holds one pose of seven numbers": 0 marks an empty cell.
 unfoldable pub markedCell : List ℕ → List Float → ℕ → Cell

@@ -1,7 +1,3 @@
 -- The definitions that the contracts of `extrinsics` cite, in the order of document 01. Definitions only; their laws are in proofs/.
-pub mod Grid
-pub mod Estimate
 pub mod Outcome
 pub mod Direct
-pub mod Rig
-pub mod Placed

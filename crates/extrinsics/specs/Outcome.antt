@@ -13,10 +13,10 @@ use Rattle.refusal.specs.Table.{refuseIf, refuseAt, firstOf}
 use Rattle.refusal.specs.declared.Refusal.{Refusal}
 use Rattle.refusal.specs.declared.Refusal.the-variants.{NotFinite, Unreached, EmptyView}
 use Rattle.lists.specs.Finding.{lowest, powerSum}
-use Rattle.extrinsics.specs.Grid.{Grid, holds, hasPlace}
-use Rattle.extrinsics.specs.Estimate.{transforms, chains}
-use Rattle.extrinsics.specs.declared.grid.Cell.{Cell}
-use Rattle.extrinsics.specs.declared.grid.Cell.the-variants.{Empty, Held}
+use Rattle.placing.specs.Grid.{Grid, holds, hasPlace}
+use Rattle.placing.specs.Estimate.{transforms, chains}
+use Rattle.placing.specs.declared.grid.Cell.{Cell}
+use Rattle.placing.specs.declared.grid.Cell.the-variants.{Empty, Held}
 use Rattle.extrinsics.specs.declared.Outcome.{Outcome}
 use Rattle.extrinsics.specs.declared.Outcome.the-variants.{Refused, Solved}
 

@@ -6,19 +6,20 @@ ghost use mathlib.Core.List.{List};
 ghost use lib.ListN.{getD};
 ghost use lib.Dec.{T};
 ghost use lib.Ieee.{Float};
-ghost use Rattle.extrinsics.specs.Grid.{spots};
+ghost use Rattle.placing.specs.Grid.{spots};
 ghost use Rattle.limits.specs.Limits.{maxViews, maxCameras};
-ghost use Rattle.chains.specs.Trees.{treeOf};
+ghost use Rattle.chains.specs.Inner.Trees.{treeOf};
 ghost use Rattle.lists.specs.Masks.{inMask};
-ghost use Rattle.extrinsics.specs.Rig.{rigGrid, Fitting};
-ghost use Rattle.inputs.specs.Finding.{foundOf};
+ghost use Rattle.placing.specs.Rig.{rigGrid};
+ghost use Rattle.placing.specs.Inner.Fitting.{Fitting};
+ghost use Rattle.inputs.specs.Inner.Finding.{foundOf};
 ghost use Rattle.extrinsics.specs.Outcome.{lowestNotFinite, unreachedSet, lowestEmptyView, isNotFinite};
-use crate::grid::Cell;
-use crate::grid::Rig;
-use crate::grid::read_cell;
 use chains::NOT_PLACED;
 use chains::Tree;
 use inputs::Found;
+use placing::grid::Cell;
+use placing::grid::Rig;
+use placing::grid::read_cell;
 
 // The numbers of an empty cell are ignored.
 fn is_not_finite(cell: Cell) -> bool

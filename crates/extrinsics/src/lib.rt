@@ -3,19 +3,13 @@
 ghost use Prim.Native.Nat.{_≤_};
 ghost use lib.ListN.{length};
 ghost use Rattle.limits.specs.Limits.{firstNeeds, secondNeeds};
-ghost use Rattle.chains.specs.Trees.{parentAt, linksAt};
-ghost use Rattle.extrinsics.specs.Rig.{rigGrid, Fitting};
+ghost use Rattle.placing.specs.Rig.{rigGrid};
+ghost use Rattle.placing.specs.Inner.Fitting.{Fitting};
 ghost use Rattle.extrinsics.specs.Outcome.{gridRefusal, Answers};
-ghost use Rattle.extrinsics.specs.Placed.{Rooted, Written};
 ghost use Rattle.extrinsics.specs.Direct.{Direct};
 
-pub mod answer;
 pub mod checks;
-pub mod grid;
-pub mod poses;
 
-use crate::grid::Rig;
-use chains::Tree;
 use chains::layer_cameras;
 use inputs::Checked;
 use inputs::Found;
@@ -23,26 +17,14 @@ use inputs::camera_count;
 use inputs::check_input;
 use inputs::masks_of;
 use limits::ONE_VIEW;
-use limits::POSE_FLOATS;
+use placing::grid::Rig;
+use placing::write_solved;
 use refusal::Refusal;
 
 // What an estimate answers. The poses of a solved rig stand in the lent answers.
 pub enum Outcome {
     Refused(Refusal),
     Solved,
-}
-
-// The transforms of a rig whose cameras hang in this tree and whose views all hold a pose, and its chains.
-fn write_solved(rig: Rig, floats: &[f64], tree: Tree, transforms: &mut [f64], chains: &mut [u8])
-    requires { ⌜ Fitting rig (now floats) × Rooted (rig .cameras) (rig .reference) (parentAt tree) (linksAt tree) × (firstNeeds (rig .cameras) (rig .views) ≤ length (now transforms)) × (secondNeeds (rig .cameras) ≤ length (now chains)) ⌝ }
-    ensures { λ _. ⌜ Written (rigGrid rig (now (floats .entry))) (parentAt tree) (linksAt tree) (now (transforms .entry)) (now (chains .entry)) (now (transforms .exit)) (now (chains .exit)) ⌝ }
-{
-    let rig_se3_cam = poses::place_cameras(rig, floats, tree);
-    let cameras = rig.cameras;
-    answer::write_cameras(rig_se3_cam, cameras, transforms);
-    let at = POSE_FLOATS * cameras;
-    answer::write_targets(rig, floats, rig_se3_cam, &mut transforms[at..]);
-    answer::write_chains(tree, cameras, chains);
 }
 
 // The core of every entry: 7, 8 and 9 in this order, or the solved rig. A refusal writes nothing.

@@ -8,13 +8,14 @@ use mathlib.Core.Path.{_≡_, refl}
 use mathlib.Core.Bool.{Bool, true, false, _||_}
 use mathlib.Core.Option.{Option, none, some}
 use mathlib.Core.List.{List, [], _∷_}
+use Rattle.lists.proofs.Tests.{or-false}
 use borrow.Author.Tests.{eqb-true, eqb-false, ne-eqb, le-ltb, ltb-false, lt-leb, leb-false, not-false}
 use lib.Dec.{eqb, ltb, leb}
 use Rattle.refusal.specs.Table.{refuseIf, refuseAt, orElse, firstOf}
 use Rattle.refusal.specs.declared.Refusal.{Refusal}
 use Rattle.refusal.specs.declared.Refusal.the-variants.{InsufficientData, TooMany, InvalidReference}
 use Rattle.limits.specs.Limits.{maxViews, maxCameras, firstNeeds, secondNeeds}
-use Rattle.inputs.specs.Finding.{foundOf}
+use Rattle.inputs.specs.Inner.Finding.{foundOf}
 use Rattle.inputs.specs.Inputs.{sizeRefusal, lengthRefusal, checkedOf}
 use Rattle.inputs.specs.declared.Found.the-variants.{At, Nothing}
 use Rattle.inputs.specs.declared.Checked.the-variants.{Refused, Passed}
@@ -82,10 +83,6 @@ unfolding firstOf
 firstOf-none-all [] e = tt
 firstOf-none-all (check ∷ later) e =
     let h = orElse-none check (firstOf later) e in (h .0, firstOf-none-all later (h .1))
-
-pub or-false : (a b : Bool) → a || b ≡ false → (a ≡ false) × (b ≡ false)
-or-false true b e = (e, let z : true ≡ false = e in cc)
-or-false false b e = (refl, e)
 
 pub record Sizes (views cameras reference : ℕ) : Type 0 where
   pub some-views : 0 < views

@@ -8,7 +8,7 @@ use lib.ListN.{length, getD}
 use Rattle.refusal.specs.Table.{firstOf}
 use Rattle.refusal.specs.declared.Refusal.{Refusal}
 use Rattle.refusal.specs.declared.Refusal.the-variants.{CountDiffers, BadMark}
-use Rattle.inputs.specs.Finding.{foundOf}
+use Rattle.inputs.specs.Inner.Finding.{foundOf}
 use Rattle.inputs.specs.Inputs.{sizeRefusal, lowestOtherCount, countRefusal, lengthRefusal, lowestBadMark, markRefusal, inputRefusal, checkedOf}
 use Rattle.inputs.specs.declared.Found.{Found}
 use Rattle.inputs.specs.declared.Found.the-variants.{At, Nothing}

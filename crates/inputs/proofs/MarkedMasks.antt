@@ -13,7 +13,7 @@ use lib.Pow.{pow-add, high, field}
 use borrow.Author.Tests.{eq-eqb, ne-eqb}
 use Rattle.lists.specs.Masks.{inMask}
 use Rattle.lists.specs.Finding.{powerSum}
-use Rattle.inputs.specs.Inputs.{maskOf}
+use Rattle.inputs.specs.Inner.Marks.{maskOf}
 use Rattle.lists.proofs.PowerSums.{powerSum-lt}
 
 -- ---- sums of powers of two

@@ -1,6 +1,6 @@
--- The checks of the direct call's inputs, by document 01: 1 to 6 in their order; and the masks that its marks make.
+-- The checks of the direct call's inputs, by document 01: 1 to 6 in their order.
 -- Rests on the table of refusals.
-use Prim.Native.Nat.{ℕ, _+_, _*_}
+use Prim.Native.Nat.{ℕ, _*_}
 use mathlib.Core.Bool.{not, _||_}
 use mathlib.Core.Option.{Option, none, some}
 use mathlib.Core.List.{List, [], _∷_}
@@ -10,7 +10,7 @@ use Rattle.refusal.specs.Table.{refuseIf, refuseAt, firstOf}
 use Rattle.refusal.specs.declared.Refusal.{Refusal}
 use Rattle.refusal.specs.declared.Refusal.the-variants.{InsufficientData, TooMany, InvalidReference, CountDiffers, WrongLength, BadMark}
 use Rattle.limits.specs.Limits.{maxViews, maxCameras, firstNeeds, secondNeeds}
-use Rattle.lists.specs.Finding.{lowest, powerSum}
+use Rattle.lists.specs.Finding.{lowest}
 use Rattle.inputs.specs.declared.Checked.{Checked}
 use Rattle.inputs.specs.declared.Checked.the-variants.{Refused, Passed}
 
@@ -70,13 +70,8 @@ inputRefusal counts marks floats reference firstRoom secondRoom =
     ∷ markRefusal (cellCount counts) marks
     ∷ [])
 
--- ---- what the checks answer, and the masks that marks make
+-- ---- what the checks answer
 
 unfoldable pub checkedOf : Option Refusal → Checked
 checkedOf (some r) = Refused r
 checkedOf none = Passed
-
--- The views in which camera c is marked.
-unfoldable pub maskOf : List ℕ → ℕ → ℕ → ℕ → ℕ
-unfolding powerSum
-maskOf marks cameras views c = powerSum (λ v. not (eqb (getD marks (v * cameras + c) 0) 0)) views

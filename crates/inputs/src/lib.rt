@@ -3,8 +3,10 @@
 ghost use Prim.Native.Nat.{ℕ, _+_, _*_, _≤_, _<_};
 ghost use mathlib.Core.Path.{_≡_};
 ghost use lib.ListN.{length, getD};
-ghost use Rattle.inputs.specs.Finding.{foundOf};
-ghost use Rattle.inputs.specs.Inputs.{sizeRefusal, lengthRefusal, lowestOtherCount, lowestBadMark, inputRefusal, checkedOf, maskOf};
+ghost use Rattle.limits.specs.Limits.{maxViews, maxCameras};
+ghost use Rattle.inputs.specs.Inner.Finding.{foundOf};
+ghost use Rattle.inputs.specs.Inputs.{sizeRefusal, lengthRefusal, lowestOtherCount, lowestBadMark, inputRefusal, checkedOf};
+ghost use Rattle.inputs.specs.Inner.Marks.{maskOf};
 use limits::CHAIN_BYTES;
 use limits::MAX_CAMERAS;
 use limits::MAX_VIEWS;
@@ -47,7 +49,7 @@ pub fn check_sizes(views: usize, cameras: usize, reference: usize) -> Checked
 
 // The lowest view whose count is not view 0's.
 fn find_other_count(counts: &[u32]) -> Found
-    requires { ⌜ (0 < length (now counts)) × (length (now counts) ≤ 64) ⌝ }
+    requires { ⌜ (0 < length (now counts)) × (length (now counts) ≤ maxViews) ⌝ }
     ensures { λ r. ⌜ r ≡ foundOf (lowestOtherCount (now (counts .entry))) ⌝ }
 {
     let mut view = 0;
@@ -69,7 +71,7 @@ fn check_lengths(
     first: usize,
     second: usize,
 ) -> Checked
-    requires { ⌜ (views ≤ 64) × (cameras ≤ 16) ⌝ }
+    requires { ⌜ (views ≤ maxViews) × (cameras ≤ maxCameras) ⌝ }
     ensures { λ r. ⌜ r ≡ checkedOf (lengthRefusal views cameras marks floats first second) ⌝ }
 {
     let cells = views * cameras;
@@ -85,7 +87,7 @@ fn check_lengths(
 
 // The lowest cell whose mark is neither 0 nor 1.
 fn find_bad_mark(marks: &[u8]) -> Found
-    requires { ⌜ length (now marks) ≤ 1024 ⌝ }
+    requires { ⌜ length (now marks) ≤ maxViews * maxCameras ⌝ }
     ensures { λ r. ⌜ r ≡ foundOf (lowestBadMark (length (now (marks .entry))) (now (marks .entry))) ⌝ }
 {
     let mut at = 0;
@@ -100,7 +102,7 @@ fn find_bad_mark(marks: &[u8]) -> Found
 
 // The views in which a camera is marked, as bits.
 fn mask_of(marks: &[u8], views: usize, cameras: usize, camera: usize) -> u64
-    requires { ⌜ (views ≤ 64) × (camera < cameras) × (cameras ≤ 16) × (length (now marks) ≡ views * cameras) ⌝ }
+    requires { ⌜ (views ≤ maxViews) × (camera < cameras) × (cameras ≤ maxCameras) × (length (now marks) ≡ views * cameras) ⌝ }
     ensures { λ r. ⌜ r ≡ maskOf (now (marks .entry)) cameras views camera ⌝ }
 {
     let mut mask = 0u64;
@@ -116,7 +118,7 @@ fn mask_of(marks: &[u8], views: usize, cameras: usize, camera: usize) -> u64
 
 // The masks of all cameras.
 pub fn masks_of(marks: &[u8], views: usize, cameras: usize) -> [u64; MAX_CAMERAS]
-    requires { ⌜ (views ≤ 64) × (cameras ≤ 16) × (length (now marks) ≡ views * cameras) ⌝ }
+    requires { ⌜ (views ≤ maxViews) × (cameras ≤ maxCameras) × (length (now marks) ≡ views * cameras) ⌝ }
     ensures { λ r. ⌜ ((c : ℕ) → c < cameras → getD r c 0 ≡ maskOf (now (marks .entry)) cameras views c) ⌝ }
 {
     let mut masks = [0u64; MAX_CAMERAS];

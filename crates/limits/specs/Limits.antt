@@ -1,4 +1,4 @@
--- The limits of document 01, "The direct call", the views that it asks for a link, the layout of its two answers, and the byte that stands for no place.
+-- The limits of document 01, "The direct call", the views that it asks for a link and the layout of its two answers.
 -- Assumes nothing.
 use Prim.Native.Nat.{ℕ, _+_, _*_}
 
@@ -38,7 +38,3 @@ linksPlace c = chainBytes * c + 1
 
 abbrev pub secondNeeds : ℕ → ℕ
 secondNeeds cameras = chainBytes * cameras
-
--- Neither a camera nor a number of links is as large.
-abbrev pub notPlacedByte : ℕ
-notPlacedByte = 255

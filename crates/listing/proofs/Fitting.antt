@@ -8,9 +8,9 @@ use lib.Dec.{leb}
 use lib.Ieee.{Float}
 use borrow.Author.Tests.{leb-true}
 use Rattle.limits.specs.Limits.{maxViews, maxCameras, firstNeeds, secondNeeds}
-use Rattle.session.specs.declared.Session.{Session}
+use Rattle.session_record.specs.declared.Session.{Session}
 use Rattle.session.specs.declared.Reply.the-variants.{Solved}
-use Rattle.command.proofs.Tests.{and-true}
+use Rattle.lists.proofs.Tests.{and-true}
 use Rattle.listing.specs.Listing.{poseFields, solvedText, replyText, listingBytes, sized, fits, written}
 
 module _ (session : Session) (first : List Float) (second : List ℕ) where

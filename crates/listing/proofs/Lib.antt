@@ -2,5 +2,5 @@
 pub mod Writing
 pub mod Digits
 pub mod Fitting
-pub mod Examples
 pub mod WrittenCalls
+pub mod Rows

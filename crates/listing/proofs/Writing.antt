@@ -8,7 +8,8 @@ use mathlib.Core.List.{List, [], _∷_, _++_, append-assoc}
 use lib.ListN.{length, take, drop, set, length-append, length-take, length-drop}
 use lib.Seq.{take-length, take-at, drop-at, drop-drop, length-take-le, set-split, paste, paste-zero}
 use Rattle.lists.specs.Lists.{gather}
-use Rattle.listing.specs.Writing.{Put, Front}
+use Rattle.listing.specs.Writing.{Front}
+use Rattle.listing.specs.Inner.Putting.{Put}
 
 pub put-nothing : (old : List ℕ) (at : ℕ) → at ≤ length old → Put old at [] old at
 put-nothing old at h = record { room = omega arith; bytes = paste-zero old at [] ∙ append-assoc (take at old) [] (drop (at + 0) old); behind = omega arith }

@@ -14,7 +14,7 @@ use Rattle.refusal.specs.declared.Refusal.{Refusal}
 use Rattle.limits.specs.Limits.{maxViews, maxCameras, poseFloats, firstNeeds, parentPlace, linksPlace, secondNeeds}
 use Rattle.lists.specs.Lists.{gather}
 use Rattle.session.specs.Call.{State, Result}
-use Rattle.session.specs.declared.Session.{Session}
+use Rattle.session_record.specs.declared.Session.{Session}
 use Rattle.session.specs.declared.Reply.{Reply}
 use Rattle.session.specs.declared.Reply.the-variants.{End, Accepted, Solved, Refused}
 use Rattle.listing.specs.Widths.{okBytes, cameraBytes, viewBytes}

@@ -5,10 +5,6 @@ use Prim.Native.Nat.{ℕ, _+_, _*_}
 abbrev pub smallBytes : ℕ
 smallBytes = 4
 
--- A blank and ten digits: a refusal's number or detail.
-abbrev pub numberBytes : ℕ
-numberBytes = 11
-
 -- A blank and 16 digits.
 abbrev pub floatBytes : ℕ
 floatBytes = 17
@@ -18,9 +14,6 @@ abbrev pub poseBytes : ℕ → ℕ
 poseBytes floats = floats * floatBytes + 1
 
 -- The lines: two letters or one, the fields, and the line's end.
-abbrev pub refusalBytes : ℕ
-refusalBytes = 2 + 2 * numberBytes + 1
-
 abbrev pub okBytes : ℕ
 okBytes = 2 + 2 * smallBytes + 1
 

@@ -19,7 +19,7 @@ use limits::MAX_VIEWS;
 use limits::POSE_FLOATS;
 use refusal::Refusal;
 use session::Reply;
-use session::Session;
+use session_record::Session;
 
 // Memory of this length holds every listing: the ok line, 16 cameras and 64 views, each line as long as any.
 pub const LISTING_BYTES: usize = 10139;

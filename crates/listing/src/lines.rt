@@ -5,8 +5,8 @@ ghost use lib.ListN.{length};
 ghost use Rattle.limits.specs.Limits.{maxViews, maxCameras, poseFloats, firstNeeds, secondNeeds};
 ghost use Rattle.lists.specs.Lists.{gather};
 ghost use Rattle.listing.specs.Listing.{refusalLine, okLine, poseFields, cameraLine, viewLine, cameraLineAt, viewLineAt, solvedText, listingBytes};
-ghost use Rattle.listing.specs.Widths.{refusalBytes, okBytes, cameraBytes, viewBytes};
-ghost use Rattle.listing.specs.Writing.{Put};
+ghost use Rattle.listing.specs.Widths.{okBytes, cameraBytes, viewBytes};
+ghost use Rattle.listing.specs.Inner.Putting.{refusalBytes, Put};
 use crate::text::NEWLINE;
 use crate::text::put_byte;
 use crate::text::put_bytes;
@@ -18,7 +18,7 @@ use limits::CHAIN_BYTES;
 use limits::LINKS_PLACE;
 use limits::POSE_FLOATS;
 use refusal::Refusal;
-use session::Session;
+use session_record::Session;
 
 pub(crate) fn put_refusal(out: &mut [u8], at: usize, refusal: Refusal) -> usize
     requires { ⌜ at + refusalBytes ≤ length (now out) ⌝ }

@@ -6,8 +6,8 @@ ghost use lib.ListN.{length};
 ghost use lib.Ieee.{binary64, toBits};
 ghost use Rattle.limits.specs.Limits.{poseFloats};
 ghost use Rattle.listing.specs.Listing.{blank, decimalText, floatText, fieldsText, poseFields};
-ghost use Rattle.listing.specs.Widths.{smallBytes, numberBytes, floatBytes, poseBytes};
-ghost use Rattle.listing.specs.Writing.{Put};
+ghost use Rattle.listing.specs.Widths.{smallBytes, floatBytes, poseBytes};
+ghost use Rattle.listing.specs.Inner.Putting.{numberBytes, Put};
 use arithmetic::pose::Pose;
 
 pub(crate) const BLANK: u8 = 32;

@@ -1,4 +1,5 @@
--- Laws of lists, counts, searches and bits.
+-- Laws of joined tests, lists, counts, searches and bits.
+pub mod Tests
 pub mod Tabulated
 pub mod Counting
 pub mod Lowest

@@ -1,5 +1,6 @@
 -- What `placer_step` ensures, by whether the words that it is handed are a record: then it is what one call of the session leaves
--- (`stepped-as-call`), and otherwise a refusal that changes nothing (`stepped-no-record`). Assumes nothing.
+-- (`stepped-as-call`), and otherwise a refusal that changes nothing (`stepped-no-record`). Unless it replies 1, for a command accepted, the words are left
+-- as they were (`stepped-keeps-words`). Assumes nothing.
 use Prim.Native.Nat.{ℕ}
 use mathlib.Core.Path.{_≡_, refl, ap, _∙_}
 use mathlib.Core.Bool.{Bool, true, false, cond}
@@ -8,10 +9,12 @@ use lib.ListN.{length}
 use lib.Ieee.{Float}
 use borrow.Author.Tests.{lt-ltb, le-ltb}
 use Rattle.refusal.specs.declared.Refusal.the-variants.{TooLong, WrongLength}
-use Rattle.session.specs.Call.{Result, state, maxStream}
+use Rattle.session.specs.Call.{Result, State, state, maxStream}
+use Rattle.session.proofs.KeptSessions.{call-keeps-session}
 use Rattle.placer.specs.Code.{codeOf, codeOfReply}
 use Rattle.placer.specs.Step.{wordsOf, sessionIn, isRecord, notARecord, stepped, wordsAfter, Stepped}
 use Rattle.placer.specs.Reading.{CallReply, NoRecordReply}
+use Rattle.placer.proofs.Records.{isRecord-words, wordsOf-sessionIn}
 use Rattle.placer.proofs.Steps.{stepped-not, stepped-call}
 
 module _ (words stream : List ℕ) (at : ℕ) (buffer first : List Float) (second : List ℕ) (r next : ℕ) (words′ : List ℕ) (buffer′ first′ : List Float)
@@ -49,3 +52,17 @@ module _ (words stream : List ℕ) (at : ℕ) (buffer first : List Float) (secon
         same-first = step .first-after ∙ ap (λ (x : Result). x .after .first) same;
         same-second = step .second-after ∙ ap (λ (x : Result). x .after .second) same;
       }
+
+  -- "A refused command changes neither session nor buffer"; nor does Solve, nor the end of the stream, change the session.
+  pub stepped-keeps-words : (r ≡ 1 → ⊥) → words′ ≡ words
+  unfolding codeOfReply
+  stepped-keeps-words other = go (isRecord words) refl
+    where
+      go : (b : Bool) → isRecord words ≡ b → words′ ≡ words
+      go false e = words-when false e
+      go true e =
+          let t : State = state (sessionIn words) buffer first second in
+          let as-call = stepped-as-call e in
+          as-call .words-after
+          ∙ ap wordsOf (call-keeps-session t stream at (λ accepted. other (as-call .reply ∙ ap codeOfReply accepted)))
+          ∙ wordsOf-sessionIn words (isRecord-words words e .long)

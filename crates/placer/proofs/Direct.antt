@@ -13,7 +13,8 @@ use Rattle.extrinsics.specs.declared.Outcome.{Outcome}
 use Rattle.placer.specs.Code.{codeOfOutcome}
 use Rattle.placer.specs.Exports.{Estimated}
 use Rattle.placer.specs.Reading.{outcomeIn, DirectReply}
-use Rattle.placer.proofs.Details.{Small, small-direct}
+use Rattle.inputs.proofs.InTurn.{Small}
+use Rattle.placer.proofs.Details.{small-direct}
 use Rattle.placer.proofs.Reading.{SmallOutcome, outcomeIn-codeOfOutcome}
 use Rattle.placer.proofs.Replies.{code-outcomeOf}
 

@@ -12,19 +12,20 @@ use Rattle.refusal.specs.Table.{numberOf, detailOf}
 use Rattle.refusal.specs.declared.Refusal.{Refusal}
 use Rattle.averaging.specs.Entry.{averageRefusal, averagedOf}
 use Rattle.extrinsics.specs.Direct.{directRefusal}
-use Rattle.placer.specs.Code.{replyOf}
+use Rattle.placer.specs.Code.{codeOfRefusal}
 use Rattle.placer.specs.Exports.{AveragedInto, Estimated}
 use Rattle.placer.specs.Reading.{numberIn, detailIn}
-use Rattle.placer.proofs.Details.{Small, small-direct, small-average}
-use Rattle.placer.proofs.Reading.{replyOf-0, replyOf-both}
+use Rattle.inputs.proofs.InTurn.{Small}
+use Rattle.placer.proofs.Details.{small-direct, small-average}
+use Rattle.placer.proofs.Reading.{codeOfRefusal-0, codeOfRefusal-both}
 use Rattle.placer.proofs.Replies.{code-averagedBy}
 
-module _ (o : Option Refusal) (small : Small o) (r : ℕ) (reply : r ≡ replyOf o) where
+module _ (o : Option Refusal) (small : Small o) (r : ℕ) (reply : r ≡ codeOfRefusal o) where
   reads-0 : (r ≡ 0) ↔ (o ≡ none)
-  reads-0 = (λ e. replyOf-0 o .0 (sym reply ∙ e), λ e. reply ∙ replyOf-0 o .1 e)
+  reads-0 = (λ e. codeOfRefusal-0 o .0 (sym reply ∙ e), λ e. reply ∙ codeOfRefusal-0 o .1 e)
 
   reads-both : (q : Refusal) → o ≡ some q → (numberIn r ≡ numberOf q) × (detailIn r ≡ detailOf q)
-  reads-both q e = let h = replyOf-both o q e (subst Small e small) in (ap numberIn reply ∙ h .0, ap detailIn reply ∙ h .1)
+  reads-both q e = let h = codeOfRefusal-both o q e (subst Small e small) in (ap numberIn reply ∙ h .0, ap detailIn reply ∙ h .1)
 
 module _ (counts marks : List ℕ) (floats : List Float) (reference : ℕ) (first : List Float) (second : List ℕ) (r : ℕ) (first′ : List Float)
     (second′ : List ℕ) (call : Estimated counts marks floats reference first second r first′ second′) where
@@ -39,7 +40,7 @@ module _ (counts marks : List ℕ) (floats : List Float) (reference : ℕ) (firs
   estimate-reads-both = reads-both refusal (small-direct counts marks floats reference (length first) (length second)) r (call .reply)
 
 module _ (poses : List Pose) (old : List Float) (r : ℕ) (after : List Float) (call : AveragedInto poses old r after) where
-  reply-is : r ≡ replyOf (averageRefusal poses)
+  reply-is : r ≡ codeOfRefusal (averageRefusal poses)
   unfolding averagedOf
   reply-is = call .reply ∙ code-averagedBy (averageRefusal poses) _
 

@@ -13,7 +13,7 @@ use Rattle.extrinsics.specs.declared.Outcome.{Outcome}
 use Rattle.extrinsics.specs.declared.Outcome.the-variants as Came
 use Rattle.session.specs.declared.Reply.{Reply}
 use Rattle.session.specs.declared.Reply.the-variants as Replied
-use Rattle.placer.specs.Code.{codeOf, codeOfOutcome, replyOf, codeOfReply}
+use Rattle.placer.specs.Code.{codeOf, codeOfOutcome, codeOfRefusal, codeOfReply}
 use Rattle.placer.specs.Reading.{numberIn, detailIn, refusalsWith, withNumber, refusalIn, outcomeIn, replyIn}
 
 -- ---- refusals
@@ -73,15 +73,15 @@ module _ (q : Refusal) (small : detailOf q < 2 ^ 32) where
 -- ---- what a check finds
 
 -- 0 is the reply where nothing is refused, and nowhere else.
-pub replyOf-0 : (o : Option Refusal) → (replyOf o ≡ 0) ↔ (o ≡ none)
-unfolding replyOf
-replyOf-0 none = (λ e. refl, λ e. refl)
-replyOf-0 (some q) = (λ e. absurd (omega (arith, codeOf-above q)), λ e. let z : _≡_ {A = ℕ} 0 1 = cc in absurd (omega arith))
+pub codeOfRefusal-0 : (o : Option Refusal) → (codeOfRefusal o ≡ 0) ↔ (o ≡ none)
+unfolding codeOfRefusal
+codeOfRefusal-0 none = (λ e. refl, λ e. refl)
+codeOfRefusal-0 (some q) = (λ e. absurd (omega (arith, codeOf-above q)), λ e. let z : _≡_ {A = ℕ} 0 1 = cc in absurd (omega arith))
 
-pub replyOf-both : (o : Option Refusal) (q : Refusal) → o ≡ some q → detailOf q < 2 ^ 32
-    → (numberIn (replyOf o) ≡ numberOf q) × (detailIn (replyOf o) ≡ detailOf q)
-unfolding replyOf
-replyOf-both o q e small = rw e (numberIn-codeOf q small, detailIn-codeOf q small)
+pub codeOfRefusal-both : (o : Option Refusal) (q : Refusal) → o ≡ some q → detailOf q < 2 ^ 32
+    → (numberIn (codeOfRefusal o) ≡ numberOf q) × (detailIn (codeOfRefusal o) ≡ detailOf q)
+unfolding codeOfRefusal
+codeOfRefusal-both o q e small = rw e (numberIn-codeOf q small, detailIn-codeOf q small)
 
 -- ---- outcomes
 

@@ -12,17 +12,17 @@ use Rattle.averaging.specs.Entry.{averagedBy}
 use Rattle.extrinsics.specs.Outcome.{outcomeOf}
 use Rattle.extrinsics.specs.Direct.{Direct, directRefusal}
 use Rattle.extrinsics.specs.declared.Outcome.{Outcome}
-use Rattle.placer.specs.Code.{codeOfOutcome, codeOfAveraged, replyOf}
+use Rattle.placer.specs.Code.{codeOfOutcome, codeOfAveraged, codeOfRefusal}
 use Rattle.placer.specs.Exports.{Estimated}
 
 -- The code of an outcome is that of what was refused.
-pub code-outcomeOf : (refusal : Option Refusal) → codeOfOutcome (outcomeOf refusal) ≡ replyOf refusal
-unfolding codeOfOutcome outcomeOf replyOf
+pub code-outcomeOf : (refusal : Option Refusal) → codeOfOutcome (outcomeOf refusal) ≡ codeOfRefusal refusal
+unfolding codeOfOutcome outcomeOf codeOfRefusal
 code-outcomeOf none = refl
 code-outcomeOf (some r) = refl
 
-pub code-averagedBy : (refusal : Option Refusal) (mean : Pose) → codeOfAveraged (averagedBy refusal mean) ≡ replyOf refusal
-unfolding codeOfAveraged averagedBy replyOf
+pub code-averagedBy : (refusal : Option Refusal) (mean : Pose) → codeOfAveraged (averagedBy refusal mean) ≡ codeOfRefusal refusal
+unfolding codeOfAveraged averagedBy codeOfRefusal
 code-averagedBy none mean = refl
 code-averagedBy (some r) mean = refl
 

@@ -22,9 +22,9 @@ unfoldable pub codeOfAveraged : Averaged → ℕ
 codeOfAveraged (Average.Refused r) = codeOf r
 codeOfAveraged (Average.Mean p) = 0
 
-unfoldable pub replyOf : Option Refusal → ℕ
-replyOf (some r) = codeOf r
-replyOf none = 0
+unfoldable pub codeOfRefusal : Option Refusal → ℕ
+codeOfRefusal (some r) = codeOf r
+codeOfRefusal none = 0
 
 unfoldable pub codeOfReply : Reply → ℕ
 codeOfReply Replied.End = 0

@@ -6,15 +6,13 @@ use lib.ListN.{length, drop}
 use lib.Ieee.{Float}
 use Rattle.arithmetic.specs.Pose.{flat}
 use Rattle.arithmetic.specs.declared.pose.Pose.{Pose}
-use Rattle.averaging.specs.Gathered.{gathered}
 use Rattle.averaging.specs.Entry.{averagedOf}
-use Rattle.averaging.specs.declared.list.Gathered.{Gathered}
 use Rattle.averaging.specs.declared.Averaged.{Averaged}
 use Rattle.averaging.specs.declared.Averaged.the-variants.{Refused, Mean}
-use Rattle.extrinsics.specs.Estimate.{transforms, chains}
+use Rattle.placing.specs.Estimate.{transforms, chains}
 use Rattle.extrinsics.specs.Outcome.{answered}
 use Rattle.extrinsics.specs.Direct.{directGrid, directRefusal}
-use Rattle.placer.specs.Code.{codeOfAveraged, replyOf}
+use Rattle.placer.specs.Code.{codeOfAveraged, codeOfRefusal}
 
 -- What the lent seven floats of a mean are afterwards: a refusal writes nothing.
 unfoldable pub meanAfter : Averaged → List Float → List Float
@@ -26,12 +24,8 @@ pub record AveragedInto (poses : List Pose) (mean : List Float) (r : ℕ) (mean�
   pub reply : r ≡ codeOfAveraged (averagedOf poses)
   pub answer : mean′ ≡ meanAfter (averagedOf poses) mean
 
--- The same by what was gathered of a list: it is that of the list.
-abbrev pub AnswersInto : Gathered → List Float → ℕ → List Float → Type 0
-AnswersInto g mean r mean′ = (l : List Pose) → g ≡ gathered l → AveragedInto l mean r mean′
-
 -- The direct call: a camera count for each view, a mark and seven floats for each cell, the reference, and both answers.
 pub record Estimated (counts marks : List ℕ) (floats : List Float) (reference : ℕ) (first : List Float) (second : List ℕ) (r : ℕ) (first′ : List Float) (second′ : List ℕ) : Type 0 where
-  pub reply : r ≡ replyOf (directRefusal counts marks floats reference (length first) (length second))
+  pub reply : r ≡ codeOfRefusal (directRefusal counts marks floats reference (length first) (length second))
   pub first-answer : first′ ≡ answered (directRefusal counts marks floats reference (length first) (length second)) (transforms (directGrid counts marks floats reference)) first
   pub second-answer : second′ ≡ answered (directRefusal counts marks floats reference (length first) (length second)) (chains (directGrid counts marks floats reference)) second

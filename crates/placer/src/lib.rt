@@ -1,5 +1,5 @@
 // The static library: what C and Rust call. Each export answers 0, or what it refuses as number times 2^32 plus detail, and a
-// refusal writes nothing. No export asks anything of its caller but that the slices are real. include/placer.h is the C header.
+// refusal writes nothing but `next`. No export asks anything of its caller but that the slices are real. include/placer.h is the C header.
 ghost use mathlib.Core.Path.{_≡_};
 ghost use Rattle.root.specs.Root.{rootOf, IsRootOf};
 ghost use Rattle.placer.specs.Exports.{AveragedInto, Estimated};
@@ -14,9 +14,9 @@ use crate::code::refusal_code;
 use crate::code::reply_code;
 use crate::mean::answer_list;
 use crate::record::is_record;
+use crate::record::keep_record;
 use crate::record::not_a_record;
 use crate::record::read_record;
-use crate::record::write_record;
 use arithmetic::pose::Pose;
 use averaging::list::read_poses;
 use extrinsics::estimate_extrinsics_from_cam_target_poses;
@@ -63,9 +63,10 @@ pub extern "C" fn placer_estimate(
     ))
 }
 
-// Obeys the one command at an offset of a stream: the session record goes in and out as nineteen words, the sixteen masks, the views, the
-// cameras and the reference, all 0 in a fresh session; and `next` is set to where the next command begins. Answers 0 at the end of the
-// stream, 1 for a command accepted and 2 for a rig solved. Refuses what the session refuses, and words that are no record with 5.
+// Obeys the one command at an offset of a stream: the session record goes in and out as words, a mask for each camera, the views, the
+// cameras and the reference, all 0 in a fresh session; and `next` is set to where the next command begins. The record is written where Size
+// or Pose is accepted, and nowhere else. Answers 0 at the end of the stream, 1 for a command accepted and 2 for a rig solved. Refuses what
+// the session refuses, and words that are no record with 5.
 #[no_mangle]
 pub extern "C" fn placer_step(
     session: &mut [u64],
@@ -85,7 +86,7 @@ pub extern "C" fn placer_step(
     let step = obey(read_record(session), stream, at, buffer, transforms, chains);
     let after = step.session;
     let reply = step.reply;
-    write_record(after, session);
+    keep_record(reply, after, session);
     *next = step.next;
     reply_code(reply)
 }

@@ -1,5 +1,5 @@
 // The answer of the averaging entry: the reply, and the mean's seven numbers where there is a mean.
-ghost use Rattle.placer.specs.Exports.{AnswersInto};
+ghost use Rattle.placer.specs.Inner.Gathered.{AnswersInto};
 use crate::code::refusal_code;
 use averaging::Averaged;
 use averaging::average_list;

@@ -1,21 +1,22 @@
-// A session record as words: the sixteen masks, then the views, the cameras and the reference.
-ghost use Prim.Native.Nat.{ℕ, _<_};
+// A session record as words: a mask for each camera, then the views, the cameras and the reference.
 ghost use mathlib.Core.Path.{_≡_};
 ghost use lib.ListN.{length};
-ghost use Rattle.placer.specs.Step.{isRecord, RecordWords, notARecord, sessionIn, wordsOf};
+ghost use Rattle.placer.specs.Step.{recordWords, isRecord, notARecord, sessionIn, wordsOf};
+ghost use Rattle.placer.specs.Inner.Records.{ReadableWords, wordsKept};
 use limits::MAX_CAMERAS;
 use refusal::Refusal;
 use session::MAX_STREAM;
-use session::Session;
+use session::Reply;
+use session_record::Session;
 
-// How many words a record takes, and where its sizes stand.
-const RECORD_WORDS: usize = 19;
+// Where a record's sizes and its reference stand, behind the masks, and how many words it takes.
+const VIEWS_WORD: usize = MAX_CAMERAS;
 
-const VIEWS: usize = 16;
+const CAMERAS_WORD: usize = MAX_CAMERAS + 1;
 
-const CAMERAS: usize = 17;
+const REFERENCE_WORD: usize = MAX_CAMERAS + 2;
 
-const REFERENCE: usize = 18;
+const RECORD_WORDS: usize = MAX_CAMERAS + 3;
 
 // What a size or a reference is below.
 const BYTE: u64 = 256;
@@ -26,7 +27,7 @@ pub fn is_record(words: &[u64]) -> bool
     if words.len() != RECORD_WORDS {
         return false;
     }
-    (words[VIEWS] < BYTE) & (words[CAMERAS] < BYTE) & (words[REFERENCE] < BYTE)
+    (words[VIEWS_WORD] < BYTE) & (words[CAMERAS_WORD] < BYTE) & (words[REFERENCE_WORD] < BYTE)
 }
 
 // What is refused where the words are no record. 13 comes before 5.
@@ -41,7 +42,7 @@ pub fn not_a_record(stream: usize) -> Refusal
 }
 
 pub fn read_record(words: &[u64]) -> Session
-    requires { ⌜ RecordWords (now words) ⌝ }
+    requires { ⌜ ReadableWords (now words) ⌝ }
     ensures { λ r. ⌜ r ≡ sessionIn (now (words .entry)) ⌝ }
 {
     let mut masks = [0u64; MAX_CAMERAS];
@@ -52,14 +53,14 @@ pub fn read_record(words: &[u64]) -> Session
     }
     Session {
         masks: masks,
-        views: words[VIEWS] as u8,
-        cameras: words[CAMERAS] as u8,
-        reference: words[REFERENCE] as u8,
+        views: words[VIEWS_WORD] as u8,
+        cameras: words[CAMERAS_WORD] as u8,
+        reference: words[REFERENCE_WORD] as u8,
     }
 }
 
 pub fn write_record(session: Session, words: &mut [u64])
-    requires { ⌜ length (now words) ≡ 19 ⌝ }
+    requires { ⌜ length (now words) ≡ recordWords ⌝ }
     ensures { λ _. ⌜ now (words .exit) ≡ wordsOf session ⌝ }
 {
     let mut camera = 0;
@@ -67,7 +68,17 @@ pub fn write_record(session: Session, words: &mut [u64])
         words[camera] = session.masks[camera];
         camera += 1;
     }
-    words[VIEWS] = session.views as u64;
-    words[CAMERAS] = session.cameras as u64;
-    words[REFERENCE] = session.reference as u64;
+    words[VIEWS_WORD] = session.views as u64;
+    words[CAMERAS_WORD] = session.cameras as u64;
+    words[REFERENCE_WORD] = session.reference as u64;
+}
+
+// The record after a call: only an accepted command changes the session, and after any other reply the words are not written at all.
+pub fn keep_record(reply: Reply, session: Session, words: &mut [u64])
+    requires { ⌜ length (now words) ≡ recordWords ⌝ }
+    ensures { λ _. ⌜ now (words .exit) ≡ wordsKept reply session (now (words .entry)) ⌝ }
+{
+    if let Reply::Accepted = reply {
+        write_record(session, words);
+    }
 }

@@ -16,7 +16,7 @@ use lib.Ieee.Exact.{HasValue, odd-sign, units-val}
 use lib.Ieee.Fits.{odd-fits, down-pos, inf-fits, kept-lt, and-l, and-r}
 use lib.Ieee.Bits.{ofBits-toBits, is-false, cond-no}
 use Rattle.root.specs.Root.{unitsOf, rootSquare, dropped, rounded, rootOf}
-use Rattle.root.specs.Steps.{pattern}
+use Rattle.root.specs.Inner.Steps.{pattern}
 use Rattle.root.proofs.Scale.{split, dropped-le, Rounded-digits, pattern-is, pow-lt-exponent, pow-le-exponent}
 
 -- ---- reading: a finite pattern with the sign clear

@@ -7,7 +7,7 @@ use native.Mathlib.Numerals.{add-one}
 use native.Mathlib.Omega.{arith}
 use lib.Pow.{pow-mono}
 use Rattle.root.specs.Root.{sq}
-use Rattle.root.specs.Steps.{Rounded}
+use Rattle.root.specs.Inner.Steps.{Rounded}
 use Rattle.root.proofs.Squares.{sq-suc, sq-twice, sq-twice-suc}
 
 -- After i turns q has i digits, and sq q + rem is what has been read of m * 2 ^ 52: its 2 * i leading digits of 106. The rest stands at the top of 54.

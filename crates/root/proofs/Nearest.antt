@@ -19,7 +19,7 @@ use lib.Ieee.{Float, nan, inf, fin, binary64, up, down, size, fits, ofBits, toBi
 use lib.Ieee.Exact.{HasValue}
 use lib.Ieee.Bits.{ofBits-toBits}
 use Rattle.root.specs.Root.{sq, unitsOf, rootSquare, dropped, rounded, rootOf, Nearer, NearestRoot, IsRootOf, Neighbours}
-use Rattle.root.specs.Steps.{Rounded}
+use Rattle.root.specs.Inner.Steps.{Rounded}
 use Rattle.root.proofs.Squares.{sq-suc, sq-twice, sq-twice-suc, sq-mul, sq-le, sq-lt}
 use Rattle.root.proofs.Scale.{Split, split, dropped-le, Rounded-digits, pow-lt-exponent}
 use Rattle.root.proofs.Bits.{fits-held, held-exponent, held-lt, unitsOf-value, rootSquare-is, rootOf-positive, units-value, units-held}

@@ -8,7 +8,7 @@ use lib.Pow.{pow-add, pow-pos, pow-lt, pow-mono, shl-lt}
 use lib.Ieee.{size, nearest}
 use lib.Ieee.Digits.{size-lt, size-le, size-reaches}
 use Rattle.root.specs.Root.{sq, wholeRoot, dropped, leading, rounded}
-use Rattle.root.specs.Steps.{Rounded, pattern}
+use Rattle.root.specs.Inner.Steps.{Rounded, pattern}
 use Rattle.root.proofs.Squares.{WholeRoot, wholeRoot-is, Rounded-unique, Rounded-ge, Rounded-le-of, Rounded-nearest}
 
 -- ---- m * 4 ^ b is n * 4 ^ c, after b - c turns that each multiplied n by four

@@ -9,7 +9,7 @@ use native.Mathlib.Omega.{arith}
 use lib.Dec.{T, leb, isLe, isEq, leb→le, nleb→lt, eqb→eq}
 use lib.Ieee.{nearest}
 use Rattle.root.specs.Root.{sq, wholeRoot}
-use Rattle.root.specs.Steps.{Rounded}
+use Rattle.root.specs.Inner.Steps.{Rounded}
 
 -- ---- squares
 

@@ -1,3 +1,3 @@
 -- The definitions that the contracts of `root` cite. Definitions only; their laws are in proofs/.
 pub mod Root
-pub mod Steps
+pub mod Inner

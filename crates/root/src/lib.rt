@@ -10,7 +10,7 @@ ghost use mathlib.Core.Path.{_≡_};
 ghost use Prim.Native.Nat.{_+_, _*_, _^_, _<_, _≤_};
 ghost use lib.Ieee.{binary64, ofBits};
 ghost use Rattle.root.specs.Root.{sq, rootOf, IsRootOf};
-ghost use Rattle.root.specs.Steps.{Rounded, pattern};
+ghost use Rattle.root.specs.Inner.Steps.{Rounded, pattern};
 
 // 2 ^ 52: the weight of a significand's leading digit, and of the exponent's field in a pattern.
 const LEAD: u64 = 0x0010_0000_0000_0000;

@@ -1,7 +1,4 @@
 -- Laws of `session` that belong to no one function, a file a topic.
-pub mod Refusals
-pub mod AllBelow
-pub mod PossibleRecords
 pub mod SetBits
 pub mod Obeying
 pub mod SizeCommands
@@ -11,3 +8,4 @@ pub mod PassedCalls
 pub mod ReadCommands
 pub mod Advancing
 pub mod SolvedCalls
+pub mod KeptSessions

@@ -10,7 +10,7 @@ use Rattle.refusal.specs.declared.Refusal.{Refusal}
 use Rattle.command.specs.Command.{Command, parse}
 use Rattle.session.specs.Commands.{commandRefusal}
 use Rattle.session.specs.Call.{State, Result, result, replyTo, stateAfter, stopped, obeyed, read, callRefusal, call, Called}
-use Rattle.session.specs.Steps.{resultOf}
+use Rattle.session.specs.Inner.Steps.{resultOf}
 use Rattle.session.specs.declared.Step.{Step}
 use Rattle.session.specs.declared.Reply.the-variants.{End, Refused}
 

@@ -10,10 +10,10 @@ use lib.Dec.{eqb, ltb}
 use borrow.Author.Tests.{eqb-true, ltb-false, not-false}
 use Rattle.refusal.specs.Table.{firstOf}
 use Rattle.refusal.specs.declared.Refusal.the-variants.{TooLong, WrongLength, Truncated}
-use Rattle.session.specs.Session.{bufferLength, possible}
+use Rattle.session_record.specs.Session.{bufferLength, possible}
 use Rattle.session.specs.Call.{State, maxStream, firstLength, secondLength, callRefusal}
-use Rattle.command.proofs.Tests.{or-false}
-use Rattle.session.proofs.Refusals.{test-passed}
+use Rattle.lists.proofs.Tests.{or-false}
+use Rattle.session_record.proofs.Refusals.{test-passed}
 
 pub record Ready (t : State) (stream : List ℕ) (at : ℕ) : Type 0 where
   pub stream-fits : length stream ≤ maxStream

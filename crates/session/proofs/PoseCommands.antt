@@ -11,11 +11,11 @@ use Rattle.arithmetic.specs.declared.pose.Pose.{Pose}
 use Rattle.refusal.specs.Table.{firstOf}
 use Rattle.refusal.specs.declared.Refusal.the-variants.{NoSize, OutsideRig, HeldAlready, NotFinite}
 use Rattle.lists.specs.Masks.{inMask}
-use Rattle.session.specs.Session.{hasSize, namedCell, possible}
+use Rattle.session_record.specs.Session.{hasSize, namedCell, possible}
 use Rattle.session.specs.Pose.{poseCommandRefusal}
-use Rattle.session.specs.declared.Session.{Session}
-use Rattle.session.proofs.Refusals.{test-passed}
-use Rattle.session.proofs.PossibleRecords.{CellInside, cell-inside}
+use Rattle.session_record.specs.declared.Session.{Session}
+use Rattle.session_record.proofs.Refusals.{test-passed}
+use Rattle.session_record.proofs.PossibleRecords.{CellInside, cell-inside}
 
 pub record PoseAccepted (s : Session) (view camera : ℕ) (p : Pose) : Type 0 where
   pub cell : CellInside s view camera

@@ -8,7 +8,7 @@ use Rattle.refusal.specs.declared.Refusal.{Refusal}
 use Rattle.refusal.specs.declared.Refusal.the-variants.{SizeAgain}
 use Rattle.inputs.specs.Inputs.{sizeRefusal}
 use Rattle.session.specs.Size.{sizeCommandRefusal}
-use Rattle.session.specs.declared.Session.{Session}
+use Rattle.session_record.specs.declared.Session.{Session}
 
 pub orElse-none : (o : Option Refusal) → orElse o none ≡ o
 unfolding orElse

@@ -12,17 +12,17 @@ use borrow.Author.Tests.{eq-eqb, ne-eqb}
 use Rattle.refusal.specs.Table.{refuseIf, orElse, firstOf}
 use Rattle.refusal.specs.declared.Refusal.{Refusal}
 use Rattle.refusal.specs.declared.Refusal.the-variants.{NoSize}
-use Rattle.extrinsics.specs.Rig.{Fitting}
+use Rattle.placing.specs.Inner.Fitting.{Fitting}
 use Rattle.extrinsics.specs.Outcome.{gridRefusal, outcomeOf, answered, Answers}
 use Rattle.extrinsics.specs.declared.Outcome.{Outcome}
 use Rattle.command.specs.Command.{solve}
-use Rattle.session.specs.Session.{bufferLength, rigOf, sessionGrid, possible}
+use Rattle.session_record.specs.Session.{bufferLength, rigOf, sessionGrid, possible}
 use Rattle.session.specs.Commands.{commandRefusal, sessionAfter, bufferAfter}
 use Rattle.session.specs.Call.{state, result, replyTo, firstAfter, secondAfter, stateAfter, obeyed}
-use Rattle.session.specs.declared.Session.{Session}
+use Rattle.session_record.specs.declared.Session.{Session}
 use Rattle.session.specs.declared.Reply.the-variants.{Solved, Refused}
 use Rattle.session.proofs.Obeying.{obeyed-refused, obeyed-accepted}
-use Rattle.session.proofs.PossibleRecords.{possible-within, possible-mask}
+use Rattle.session_record.proofs.PossibleRecords.{possible-within, possible-mask}
 use Rattle.session.proofs.SizeCommands.{orElse-none}
 
 pub solve-without-size : (s : Session) (buffer : List Float) → s .views ≡ 0 → commandRefusal s buffer solve ≡ some NoSize

@@ -10,17 +10,17 @@ use lib.ListN.{length, length-append, length-drop}
 use Rattle.refusal.specs.declared.Refusal.{Refusal}
 use Rattle.refusal.specs.declared.Refusal.the-variants.{NoSize}
 use Rattle.limits.specs.Limits.{maxViews, maxCameras}
-use Rattle.extrinsics.specs.Estimate.{transforms, chains}
+use Rattle.placing.specs.Estimate.{transforms, chains}
 use Rattle.extrinsics.specs.Outcome.{answered}
 use Rattle.command.specs.Command.{Command, edit, solve, Parsed, complete, broken, unknown, parse}
-use Rattle.session.specs.Session.{sessionGrid}
+use Rattle.session_record.specs.Session.{sessionGrid}
 use Rattle.session.specs.Commands.{commandRefusal, sessionAfter}
 use Rattle.session.specs.Call.{firstLength, secondLength, State, Result, callRefusal, replyTo, firstAfter, secondAfter, stateAfter, obeyed, read, call}
 use Rattle.session.specs.declared.Reply.{Reply}
 use Rattle.session.specs.declared.Reply.the-variants.{End, Accepted, Solved, Refused}
 use Rattle.session.proofs.Obeying.{obeyed-refused, obeyed-accepted, call-refused, call-end, call-read}
 use Rattle.session.proofs.PassedCalls.{Ready, call-passed}
-use Rattle.session.proofs.PossibleRecords.{possible-within}
+use Rattle.session_record.proofs.PossibleRecords.{possible-within}
 use Rattle.session.proofs.SolveCommands.{solve-without-size}
 
 pub record HoldsRig (t : State) : Type 0 where

@@ -2,7 +2,7 @@
 -- Rests on the commands of `Command` and what they do in `Commands`.
 use Prim.Native.Nat.{ℕ, _+_}
 use mathlib.Core.Path.{_≡_}
-use mathlib.Core.Bool.{not, _||_, cond}
+use mathlib.Core.Bool.{Bool, not, _||_, cond}
 use mathlib.Core.Option.{Option, none, some}
 use mathlib.Core.List.{List, [], _∷_}
 use lib.ListN.{length}
@@ -13,10 +13,10 @@ use Rattle.refusal.specs.declared.Refusal.{Refusal}
 use Rattle.refusal.specs.declared.Refusal.the-variants.{WrongLength, UnknownCommand, Truncated, TooLong}
 use Rattle.limits.specs.Limits.{maxViews, maxCameras, firstNeeds, secondNeeds}
 use Rattle.command.specs.Command.{Command, edit, solve, Parsed, complete, broken, unknown, parse}
-use Rattle.session.specs.Session.{bufferLength, possible}
+use Rattle.session_record.specs.Session.{bufferLength, possible}
 use Rattle.session.specs.Solve.{firstAfterSolve, secondAfterSolve}
 use Rattle.session.specs.Commands.{commandRefusal, sessionAfter, bufferAfter}
-use Rattle.session.specs.declared.Session.{Session}
+use Rattle.session_record.specs.declared.Session.{Session}
 use Rattle.session.specs.declared.Step.{Step}
 use Rattle.session.specs.declared.Reply.{Reply}
 use Rattle.session.specs.declared.Reply.the-variants.{End, Accepted, Solved, Refused}
@@ -51,15 +51,22 @@ pub record Result : Type 0 where
 abbrev pub result : Reply → State → ℕ → Result
 result r t n = record { reply = r; after = t; next = n }
 
+-- 5: "an answer is too short, the session buffer's length is wrong, or a session record handed in has sizes, a reference or mask bits
+-- that no accepted commands could leave".
+abbrev pub unusable : State → Bool
+unusable t =
+    not (eqb (length (t .buffer)) bufferLength)
+    || ltb (length (t .first)) firstLength
+    || ltb (length (t .second)) secondLength
+    || not (possible (t .session))
+
 -- "Each call checks 13, then 5, before all else"; an offset past the end "gives 11, detail the length".
 unfoldable pub callRefusal : State → List ℕ → ℕ → Option Refusal
 unfolding refuseIf firstOf possible
 callRefusal t stream at =
     firstOf
     (refuseIf (ltb maxStream (length stream)) TooLong
-    ∷ refuseIf
-    (not (eqb (length (t .buffer)) bufferLength) || ltb (length (t .first)) firstLength || ltb (length (t .second)) secondLength || not (possible (t .session)))
-    WrongLength
+    ∷ refuseIf (unusable t) WrongLength
     ∷ refuseIf (ltb (length stream) at) (Truncated (length stream))
     ∷ [])
 

@@ -6,11 +6,11 @@ use mathlib.Core.List.{List}
 use lib.Ieee.{Float}
 use Rattle.refusal.specs.declared.Refusal.{Refusal}
 use Rattle.command.specs.Command.{Edit, size, place, Command, edit, solve}
-use Rattle.session.specs.Session.{fresh}
+use Rattle.session_record.specs.Session.{fresh}
 use Rattle.session.specs.Size.{sizeCommandRefusal, sessionAfterSize}
 use Rattle.session.specs.Pose.{poseCommandRefusal, sessionAfterPose, bufferAfterPose}
 use Rattle.session.specs.Solve.{solveCommandRefusal}
-use Rattle.session.specs.declared.Session.{Session}
+use Rattle.session_record.specs.declared.Session.{Session}
 
 -- ---- the edits: none of them looks at the buffer, and an accepted one changes record and buffer alone
 

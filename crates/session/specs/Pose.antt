@@ -13,8 +13,8 @@ use Rattle.refusal.specs.Table.{refuseIf, firstOf}
 use Rattle.refusal.specs.declared.Refusal.{Refusal}
 use Rattle.refusal.specs.declared.Refusal.the-variants.{NoSize, OutsideRig, HeldAlready, NotFinite}
 use Rattle.lists.specs.Masks.{inMask}
-use Rattle.session.specs.Session.{hasSize, namedCell, cellStart, withMask}
-use Rattle.session.specs.declared.Session.{Session}
+use Rattle.session_record.specs.Session.{hasSize, namedCell, cellStart, withMask}
+use Rattle.session_record.specs.declared.Session.{Session}
 
 -- 21: "Pose or Solve before an accepted Size". "Pose checks 12, 23, 7".
 unfoldable pub poseCommandRefusal : Session → ℕ → ℕ → Pose → Option Refusal

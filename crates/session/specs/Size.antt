@@ -6,8 +6,8 @@ use Rattle.refusal.specs.Table.{refuseIf, firstOf}
 use Rattle.refusal.specs.declared.Refusal.{Refusal}
 use Rattle.refusal.specs.declared.Refusal.the-variants.{SizeAgain}
 use Rattle.inputs.specs.Inputs.{sizeRefusal}
-use Rattle.session.specs.Session.{hasSize, withSizes}
-use Rattle.session.specs.declared.Session.{Session}
+use Rattle.session_record.specs.Session.{hasSize, withSizes}
+use Rattle.session_record.specs.declared.Session.{Session}
 
 -- 22: "Size after an accepted Size". "After that, Size checks views and cameras as above, then 3".
 unfoldable pub sizeCommandRefusal : Session → ℕ → ℕ → ℕ → Option Refusal

@@ -8,11 +8,11 @@ use lib.Ieee.{Float}
 use Rattle.refusal.specs.Table.{refuseIf, firstOf}
 use Rattle.refusal.specs.declared.Refusal.{Refusal}
 use Rattle.refusal.specs.declared.Refusal.the-variants.{NoSize}
-use Rattle.extrinsics.specs.Estimate.{transforms, chains}
+use Rattle.placing.specs.Estimate.{transforms, chains}
 use Rattle.extrinsics.specs.Outcome.{answered, gridRefusal}
-use Rattle.extrinsics.specs.Rig.{rigGrid}
-use Rattle.session.specs.Session.{hasSize, sessionGrid}
-use Rattle.session.specs.declared.Session.{Session}
+use Rattle.placing.specs.Rig.{rigGrid}
+use Rattle.session_record.specs.Session.{hasSize, sessionGrid}
+use Rattle.session_record.specs.declared.Session.{Session}
 
 -- 21: "Pose or Solve before an accepted Size". "Solve checks 7, 8, 9."
 unfoldable pub solveCommandRefusal : Session → List Float → Option Refusal

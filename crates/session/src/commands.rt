@@ -5,8 +5,7 @@ ghost use mathlib.Core.Option.{none};
 ghost use lib.ListN.{length};
 ghost use Rattle.command.specs.Command.{parse};
 ghost use Rattle.session.specs.Call.{state, callRefusal, read};
-ghost use Rattle.session.specs.Steps.{resultOf};
-use crate::Session;
+ghost use Rattle.session.specs.Inner.Steps.{resultOf};
 use crate::Step;
 use crate::pose::obey_pose;
 use crate::replies::refuse;
@@ -17,6 +16,7 @@ use command::parse::SIZE_WIDTH;
 use command::parse::SOLVE_WIDTH;
 use command::parse::parse;
 use refusal::Refusal;
+use session_record::Session;
 
 // The command at an offset before the end: 10, 11, or what the command itself does.
 pub fn obey_command(

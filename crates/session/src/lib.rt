@@ -1,18 +1,15 @@
 // The session: poses arrive as commands in a stream of bytes, one command a call, and Solve answers as the direct call would.
 ghost use mathlib.Core.Path.{_≡_};
 ghost use Rattle.inputs.specs.Inputs.{checkedOf};
-ghost use Rattle.session.specs.Session.{fresh};
 ghost use Rattle.session.specs.Call.{state, callRefusal, Called};
 
 pub mod commands;
 mod pose;
-mod record;
 mod replies;
 mod size;
 mod solve;
 
 use crate::commands::obey_command;
-use crate::record::is_possible;
 use crate::replies::refuse;
 use inputs::Checked;
 use limits::CHAIN_BYTES;
@@ -20,25 +17,17 @@ use limits::MAX_CAMERAS;
 use limits::MAX_VIEWS;
 use limits::POSE_FLOATS;
 use refusal::Refusal;
+use session_record::BUFFER_FLOATS;
+use session_record::Session;
+use session_record::check::is_possible;
 
 // The most bytes of a stream.
 pub const MAX_STREAM: usize = 65536;
-
-// The floats of the buffer: seven for each cell of 64 views and 16 cameras.
-pub const BUFFER_FLOATS: usize = 7168;
 
 // The least floats of the first answer, and the least bytes of the second: for as many cameras and views as a rig may have.
 pub const FIRST_FLOATS: usize = POSE_FLOATS * (MAX_CAMERAS + MAX_VIEWS);
 
 pub const SECOND_BYTES: usize = CHAIN_BYTES * MAX_CAMERAS;
-
-// Bit v of a camera's mask is set when view v holds a pose of that camera. A fresh session is all zeros: no sizes, no poses.
-pub struct Session {
-    pub masks: [u64; MAX_CAMERAS],
-    pub views: u8,
-    pub cameras: u8,
-    pub reference: u8,
-}
 
 // What one call answers.
 pub enum Reply {
@@ -56,17 +45,6 @@ pub struct Step {
     pub session: Session,
     pub reply: Reply,
     pub next: usize,
-}
-
-pub fn fresh() -> Session
-    ensures { λ r. ⌜ r ≡ fresh ⌝ }
-{
-    Session {
-        masks: [0; MAX_CAMERAS],
-        views: 0,
-        cameras: 0,
-        reference: 0,
-    }
 }
 
 // 13, then 5, and 11 for an offset past the end.

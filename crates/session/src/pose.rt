@@ -9,15 +9,13 @@ ghost use Rattle.limits.specs.Limits.{maxViews, maxCameras};
 ghost use Rattle.lists.specs.Masks.{inMask};
 ghost use Rattle.inputs.specs.Inputs.{checkedOf};
 ghost use Rattle.command.specs.Command.{edit, poseWidth, offeredPose};
-ghost use Rattle.command.specs.Parts.{poseBytes, placeAt};
-ghost use Rattle.session.specs.Session.{bufferLength, possible};
+ghost use Rattle.command.specs.Inner.Parts.{poseBytes, placeAt};
+ghost use Rattle.session_record.specs.Session.{bufferLength, possible};
 ghost use Rattle.session.specs.Pose.{poseCommandRefusal, sessionAfterPose, bufferAfterPose};
 ghost use Rattle.session.specs.Call.{state, obeyed};
-ghost use Rattle.session.specs.Steps.{resultOf};
+ghost use Rattle.session.specs.Inner.Steps.{resultOf};
 use crate::Reply;
-use crate::Session;
 use crate::Step;
-use crate::record::with_mask;
 use crate::replies::refuse;
 use arithmetic::pose::Pose;
 use command::bytes::is_finite_pose;
@@ -27,6 +25,8 @@ use inputs::Checked;
 use limits::MAX_CAMERAS;
 use limits::POSE_FLOATS;
 use refusal::Refusal;
+use session_record::Session;
+use session_record::change::with_mask;
 
 fn is_held(mask: u64, view: u8) -> bool
     requires { ⌜ view < maxViews ⌝ }

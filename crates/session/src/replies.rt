@@ -1,11 +1,11 @@
 // What a refused command answers.
 ghost use mathlib.Core.Path.{_≡_};
-ghost use Rattle.session.specs.Steps.{step};
+ghost use Rattle.session.specs.Inner.Steps.{step};
 ghost use Rattle.session.specs.declared.Reply.the-variants.{Refused};
 use crate::Reply;
-use crate::Session;
 use crate::Step;
 use refusal::Refusal;
+use session_record::Session;
 
 // The session stays as it is.
 pub fn refuse(session: Session, refusal: Refusal, next: usize) -> Step

@@ -5,15 +5,15 @@ ghost use mathlib.Core.List.{List};
 ghost use lib.Ieee.{Float};
 ghost use Rattle.command.specs.Command.{size, edit};
 ghost use Rattle.session.specs.Call.{state, obeyed};
-ghost use Rattle.session.specs.Steps.{resultOf};
+ghost use Rattle.session.specs.Inner.Steps.{resultOf};
 use crate::Reply;
-use crate::Session;
 use crate::Step;
-use crate::record::with_sizes;
 use crate::replies::refuse;
 use inputs::Checked;
 use inputs::check_sizes;
 use refusal::Refusal;
+use session_record::Session;
+use session_record::change::with_sizes;
 
 // 22, then 1 to 3 as the direct call has them.
 pub fn obey_size(session: Session, views: u8, cameras: u8, reference: u8, next: usize) -> Step

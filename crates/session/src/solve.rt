@@ -4,17 +4,17 @@ ghost use mathlib.Core.Path.{_≡_};
 ghost use mathlib.Core.Bool.{true};
 ghost use lib.ListN.{length};
 ghost use Rattle.command.specs.Command.{solve};
-ghost use Rattle.session.specs.Session.{bufferLength, possible};
+ghost use Rattle.session_record.specs.Session.{bufferLength, possible};
 ghost use Rattle.session.specs.Call.{firstLength, secondLength, state, obeyed};
-ghost use Rattle.session.specs.Steps.{resultOf};
+ghost use Rattle.session.specs.Inner.Steps.{resultOf};
 use crate::Reply;
-use crate::Session;
 use crate::Step;
 use crate::replies::refuse;
 use extrinsics::Outcome;
-use extrinsics::grid::Rig;
 use limits::MAX_CAMERAS;
+use placing::grid::Rig;
 use refusal::Refusal;
+use session_record::Session;
 
 // 21, then 7 to 9 as the direct call has them on the grid that masks and buffer hold.
 pub fn obey_solve(

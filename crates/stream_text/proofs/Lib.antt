@@ -1,2 +1,3 @@
--- The laws of a stream obeyed in parts.
+-- The laws of a stream obeyed in parts, and the rows of what is refused of its text.
 pub mod Parts
+pub mod Rows

@@ -13,28 +13,29 @@ use lib.Dec.{T, leb, ltb}
 use lib.Ieee.{Float}
 use borrow.Rule.Slice.PartMut.{midOf, putMid, mid-len}
 use borrow.Author.Tests.{lt-ltb, le-ltb, le-leb, lt-leb, ltb-true, ltb-false, leb-true, leb-false}
-use Rattle.command.proofs.Tests.{and-true}
+use Rattle.lists.proofs.Tests.{and-true}
 use Rattle.refusal.specs.declared.Refusal.{Refusal}
 use Rattle.refusal.specs.declared.Refusal.the-variants.{TooLong, WrongLength}
 use Rattle.inputs.specs.declared.Checked.{Checked}
 use Rattle.command.specs.Command.{Parsed, complete, broken, unknown, parse}
 use Rattle.session.specs.Call.{maxStream, State, state, Result, callRefusal, read, call}
-use Rattle.session.specs.Steps.{resultOf}
-use Rattle.session.specs.declared.Session.{Session}
+use Rattle.session.specs.Inner.Steps.{resultOf}
+use Rattle.session_record.specs.declared.Session.{Session}
 use Rattle.session.specs.declared.Step.{Step}
 use Rattle.session.specs.declared.Reply.the-variants.{Refused}
 use Rattle.session.proofs.PassedCalls.{Ready, call-passed}
 use Rattle.session.proofs.Obeying.{call-read}
 use Rattle.command.proofs.Decoding.{parse-complete}
 use Rattle.session.proofs.Advancing.{call-advances}
-use Rattle.extrinsics.proofs.Filling.{put-tail}
+use Rattle.placing.proofs.Filling.{put-tail}
 use Rattle.listing.specs.Listing.{refusalLine, replyText, listingBytes, fits, written, printedBy}
-use Rattle.listing.specs.Writing.{Put, Front}
+use Rattle.listing.specs.Writing.{Front}
+use Rattle.listing.specs.Inner.Putting.{Put}
 use Rattle.listing.proofs.Writing.{put-nothing, put-length, put-then}
 use Rattle.listing.proofs.WrittenCalls.{written-call}
-use Rattle.streams.specs.Stream.{Usable}
-use Rattle.streams.proofs.Streams.{callRefusal-passes, passes-of-usable, obeyed-answerTo}
-use Rattle.streams.proofs.Usable.{usable-answer}
+use Rattle.claims_streams.specs.Stream.{Usable}
+use Rattle.claims_streams.proofs.Streams.{callRefusal-passes, passes-of-usable, obeyed-answerTo}
+use Rattle.claims_streams.proofs.Usable.{usable-answer}
 use Rattle.stream_text.specs.declared.StreamText.{StreamText}
 use Rattle.stream_text.specs.StreamText.{Part, part, behind, partWithin, partFrom, textRefusal, partIn, Leaves}
 

@@ -1,2 +1,4 @@
--- A whole stream obeyed, with what it prints: what one call of it comes to. Definitions only; their laws are in proofs/.
+-- A whole stream obeyed, with what it prints: what one call of it comes to, and rows of what is refused of its text. Definitions only; their laws are in
+-- proofs/.
 pub mod StreamText
+pub mod Rows

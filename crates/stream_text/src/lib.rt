@@ -8,7 +8,7 @@ ghost use lib.Dec.{ltb};
 ghost use Rattle.refusal.specs.declared.Refusal.the-variants.{TooLong, WrongLength};
 ghost use Rattle.session.specs.Call.{maxStream, state, callRefusal};
 ghost use Rattle.listing.specs.Listing.{listingBytes, written};
-ghost use Rattle.listing.specs.Writing.{Put};
+ghost use Rattle.listing.specs.Inner.Putting.{Put};
 ghost use Rattle.inputs.specs.declared.Checked.the-variants.{Passed};
 ghost use Rattle.stream_text.specs.StreamText.{partWithin, Leaves, ObeyedInto};
 use inputs::Checked;
@@ -17,9 +17,9 @@ use listing::write_reply;
 use refusal::Refusal;
 use session::MAX_STREAM;
 use session::Reply;
-use session::Session;
 use session::check_call;
 use session::commands::obey_command;
+use session_record::Session;
 
 // The session after the commands obeyed, whether the text was refused, the offset of the next command, and the bytes of the text in use.
 pub struct StreamText {

@@ -32,8 +32,8 @@ use denote.Triple.Table.{entered, cited}
 use denote.Triple.Walked.{says, Stays, stay-dropped, walkOf, Walks, ends-at, walked, goes-dropped, walk-meets}
 use Rattle.arithmetic.specs.declared.pose.Pose.{Pose}
 use Rattle.arithmetic.proofs.pose.Pose as P
-use Rattle.averaging.specs.Gathered.{gathered}
-use Rattle.averaging.specs.Entry.{averagedOf, AnswersFor}
+use Rattle.averaging.specs.Inner.Gathered.{gathered, AnswersFor}
+use Rattle.averaging.specs.Entry.{averagedOf}
 use Rattle.averaging.specs.declared.Averaged.{Averaged}
 use Rattle.averaging.proofs.Calling.{calls-plain}
 use Rattle.averaging.proofs.Lending.{lent-poses, calls-lent}

@@ -3,11 +3,10 @@ use Prim.Native.Nat.{_≤_}
 use native.Mathlib.Omega.{arith}
 use mathlib.Core.Path.{sym, ap, _∙_}
 use lib.ListN.{length}
-use Rattle.average.specs.Average.{meanOf}
-use Rattle.average.specs.declared.Average.{Average}
-use Rattle.average.proofs.Averaging.{mean-taken}
-use Rattle.averaging.specs.Gathered.{maxPoses}
-use Rattle.averaging.specs.Entry.{lowestNotFinite}
+use Rattle.mean.specs.Average.{meanOf}
+use Rattle.mean.specs.declared.Average.{Average}
+use Rattle.mean.proofs.Averaging.{mean-taken}
+use Rattle.averaging.specs.Entry.{maxPoses, lowestNotFinite}
 use Rattle.averaging.specs.declared.Averaged.the-variants.{Mean}
 use Rattle.averaging.proofs.Gathering.{count-gathered, sum-gathered, bad-gathered}
 use Rattle.averaging.proofs.Outcomes.{averagedOf-empty, averagedOf-too-many, averagedOf-not-finite, averagedOf-mean}

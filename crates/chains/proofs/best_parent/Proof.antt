@@ -6,7 +6,7 @@ use borrow.Author.Needs.{needs}
 use mathlib.Core.Path.{_≡_, ap, _∙_}
 use mathlib.Core.Logic.{⊎-elim}
 use Rattle.chains.specs.Masks.{sharedBy}
-use Rattle.chains.specs.Search.{foundByte, firstMost}
+use Rattle.chains.specs.Inner.Search.{foundByte, firstMost}
 use Rattle.chains.proofs.Searching.{Leads, leads-none, leads-more, leads-same}
 use Rattle.chains.proofs.best_parent.Statement.{statement}
 use Rattle.chains.proofs.best_parent.Tie as tie

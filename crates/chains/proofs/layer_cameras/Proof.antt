@@ -4,7 +4,7 @@ use Prim.Native.Nat.{_-_, _≤_}
 use native.Mathlib.Omega.{arith}
 use borrow.Author.Needs.{needs}
 use Rattle.chains.specs.Masks.{sharedBy}
-use Rattle.chains.specs.Search.{Reached}
+use Rattle.chains.specs.Inner.Search.{Reached}
 use Rattle.chains.proofs.Reaching.{reached-number, reached-usable, reached-end}
 use Rattle.chains.proofs.layer_cameras.Statement.{statement}
 use Rattle.chains.proofs.layer_cameras.Tie as tie

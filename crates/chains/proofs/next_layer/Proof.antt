@@ -9,7 +9,7 @@ use mathlib.Core.Logic.{⊎-elim}
 use lib.ListN.{length, length-set}
 use Rattle.limits.specs.Limits.{maxCameras}
 use Rattle.chains.specs.Masks.{sharedBy}
-use Rattle.chains.specs.Search.{Reached}
+use Rattle.chains.specs.Inner.Search.{Reached}
 use Rattle.chains.proofs.Turning.{searchOf, Turned, turned-start, turned-end, turn-placed-before, turn-no-parent, turn-placed}
 use Rattle.chains.proofs.next_layer.Statement.{statement}
 use Rattle.chains.proofs.next_layer.Tie as tie

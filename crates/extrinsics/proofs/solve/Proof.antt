@@ -4,10 +4,10 @@ use mathlib.Core.Option.{some}
 use mathlib.Core.Path.{sym, ap, _∙_}
 use borrow.Author.Needs.{needs}
 use Rattle.refusal.specs.declared.Refusal.the-variants.{Unreached}
-use Rattle.extrinsics.specs.Rig.{rigGrid}
+use Rattle.placing.specs.Rig.{rigGrid}
 use Rattle.extrinsics.specs.Outcome.{gridRefusal}
-use Rattle.chains.specs.Trees.{treeOf}
-use Rattle.extrinsics.proofs.Rooting.{spots-rooted, written-by-layers}
+use Rattle.chains.specs.Inner.Trees.{treeOf}
+use Rattle.placing.proofs.Rooting.{spots-rooted, written-by-layers}
 use Rattle.extrinsics.proofs.Solving.{spots-masks, refused-not-finite, refused-unreached, all-placed, refused-empty-view, not-refused, answers-refused, answers-solved}
 use Rattle.inputs.proofs.Answering.{foundOf-at, foundOf-nothing}
 use Rattle.extrinsics.proofs.solve.Statement.{statement}

@@ -10,7 +10,7 @@ use borrow.Author.Tests.{lt-ltb, le-ltb}
 use lib.ListN.{length, getD}
 use lib.Dec.{ltb}
 use Rattle.lists.specs.Finding.{lowest}
-use Rattle.inputs.specs.Finding.{foundOf}
+use Rattle.inputs.specs.Inner.Finding.{foundOf}
 use Rattle.inputs.specs.Inputs.{lowestBadMark}
 use Rattle.lists.proofs.Lowest.{lowest-none-more, lowest-first}
 use Rattle.inputs.proofs.find_bad_mark.Statement.{statement}

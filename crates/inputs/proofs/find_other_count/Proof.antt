@@ -10,7 +10,7 @@ use borrow.Author.Tests.{eq-eqb, ne-eqb}
 use lib.ListN.{length, getD}
 use lib.Dec.{eqb}
 use Rattle.lists.specs.Finding.{lowest}
-use Rattle.inputs.specs.Finding.{foundOf}
+use Rattle.inputs.specs.Inner.Finding.{foundOf}
 use Rattle.inputs.specs.Inputs.{lowestOtherCount}
 use Rattle.lists.proofs.Lowest.{lowest-none-more, lowest-first}
 use Rattle.inputs.proofs.find_other_count.Statement.{statement}

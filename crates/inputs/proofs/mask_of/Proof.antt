@@ -9,7 +9,7 @@ use borrow.Author.Needs.{needs}
 use lib.Arith.{digits-lt}
 use lib.Pow.{pow-mono, shl-exact}
 use Rattle.lists.specs.Finding.{powerSum}
-use Rattle.inputs.specs.Inputs.{maskOf}
+use Rattle.inputs.specs.Inner.Marks.{maskOf}
 use Rattle.inputs.proofs.MarkedMasks.{maskOf-below, maskOf-marked, maskOf-unmarked}
 use Rattle.inputs.proofs.mask_of.Statement.{statement}
 use Rattle.inputs.proofs.mask_of.Tie as tie

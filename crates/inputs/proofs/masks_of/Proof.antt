@@ -7,7 +7,7 @@ use borrow.Author.Needs.{needs}
 use lib.ListN.{length, getD}
 use lib.Seq.{getD-set-same, getD-set-other}
 use Rattle.limits.specs.Limits.{maxCameras}
-use Rattle.inputs.specs.Inputs.{maskOf}
+use Rattle.inputs.specs.Inner.Marks.{maskOf}
 use Rattle.inputs.proofs.masks_of.Statement.{statement}
 use Rattle.inputs.proofs.masks_of.Tie as tie
 

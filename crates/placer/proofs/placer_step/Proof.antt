@@ -1,4 +1,5 @@
--- `placer_step` meets its contract: words that are no record are refused, and any other are the session that the call obeys a command with. Assumes nothing.
+-- `placer_step` meets its contract: words that are no record are refused, and any other are the session that the call obeys a command with; they
+-- are written anew where it accepts one. Assumes nothing.
 use mathlib.Core.Path.{_≡_, sym, ap, _∙_}
 use mathlib.Core.Bool.{true, false}
 use borrow.Author.Tests.{not-false, not-true}
@@ -26,8 +27,8 @@ read-record-requires c κs =
     let a = k .before .before .before .before .before .before .before .args in
     isRecord-words (a .session .now) (sym (k .is-record .ensures) ∙ not-false _ (t .if1 .left))
 
-write-record-requires : tie.Need-write-record-requires
-write-record-requires c κs =
+keep-record-requires : tie.Need-keep-record-requires
+keep-record-requires c κs =
     let o = c .before .before .before .before .before .before .before .before in
     let t = o .before .before .before .before .before .before in
     let k = t .before in
@@ -43,7 +44,7 @@ returns-2 c =
     let k = t .before in
     let a = k .before .before .before .before .before .before .before .args in
     let yes : isRecord (a .session .now) ≡ true = sym (k .is-record .ensures) ∙ not-false _ (t .if1 .left) in
-    stepped-obeyed (a .session .now) (a .stream .now) (a .at) (a .buffer .now) (a .transforms .now) (a .chains .now) yes (r .read-record .result) (r .read-record .ensures) (o .obey .result) _ _ _ (o .obey .ensures) (w .write-record .ensures) (c .reply-code .ensures)
+    stepped-obeyed (a .session .now) (a .stream .now) (a .at) (a .buffer .now) (a .transforms .now) (a .chains .now) yes (r .read-record .result) (r .read-record .ensures) (o .obey .result) _ _ _ (o .obey .ensures) (w .keep-record .ensures) (c .reply-code .ensures)
 
 pub placer-step-spec : {M : Type 1} → statement M
 placer-step-spec =
@@ -56,7 +57,7 @@ placer-step-spec =
     returns
     read-record-requires
     (λ c κs. search needs)
-    write-record-requires
+    keep-record-requires
     (λ c κs. search needs)
     (λ c. search needs)
     (λ c. search needs)

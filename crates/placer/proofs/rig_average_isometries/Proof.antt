@@ -39,9 +39,10 @@ use denote.Triple.Table.{entered, cited}
 use denote.Triple.Walked.{says, Stays, stay-dropped, gave-ref, walkOf, Walks, ends-at, walked, goes-dropped, goes-gave-ref, walk-meets}
 use Rattle.arithmetic.specs.declared.pose.Pose.{Pose}
 use Rattle.arithmetic.proofs.pose.Pose as P
-use Rattle.averaging.specs.Gathered.{gathered}
+use Rattle.averaging.specs.Inner.Gathered.{gathered}
 use Rattle.averaging.specs.declared.list.Gathered.{Gathered}
-use Rattle.placer.specs.Exports.{AveragedInto, AnswersInto}
+use Rattle.placer.specs.Exports.{AveragedInto}
+use Rattle.placer.specs.Inner.Gathered.{AnswersInto}
 use Rattle.averaging.proofs.Lending.{lent-poses, calls-lent}
 use Rattle.averaging.proofs.list.Gathered as S
 use Rattle.averaging.proofs.list.Gathered.Laws as S′

@@ -1,7 +1,7 @@
 -- `root::halved` meets its contract: with the 2 that an odd exponent has over, the number is the same. Assumes nothing.
 use mathlib.Core.Path.{ap, _∙_}
 use native.Mathlib.Omega.{arith}
-use Rattle.root.specs.Steps.{pattern}
+use Rattle.root.specs.Inner.Steps.{pattern}
 use Rattle.root.proofs.Scale.{halves}
 use borrow.Author.Needs.{needs}
 use Rattle.root.proofs.halved.Statement.{statement}

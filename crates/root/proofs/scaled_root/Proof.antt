@@ -1,7 +1,7 @@
 -- `root::scaled_root` meets its contract: the loop keeps `Scaled`, and what it leaves has a root whose digits `nearest_root` gives. The measure is the exponent. Assumes nothing.
 use mathlib.Core.Path.{sym, ap, _∙_}
 use native.Mathlib.Omega.{arith}
-use Rattle.root.specs.Steps.{pattern}
+use Rattle.root.specs.Inner.Steps.{pattern}
 use Rattle.root.proofs.Scale.{Scaled, unscaled, scaled-more, Rounded-digits, pattern-scaled}
 use Rattle.root.proofs.scaled_root.Statement.{statement}
 use Rattle.root.proofs.scaled_root.Tie as tie

@@ -4,10 +4,10 @@ use native.Mathlib.Omega.{arith}
 use mathlib.Core.Path.{sym, ap, _∙_}
 use borrow.Author.Needs.{needs}
 use Rattle.session.specs.Call.{state, result}
-use Rattle.session.specs.Steps.{resultOf}
+use Rattle.session.specs.Inner.Steps.{resultOf}
 use Rattle.session.specs.declared.Step.{Step}
 use Rattle.session.specs.declared.Reply.the-variants.{End}
-use Rattle.session.proofs.Refusals.{check-refused, check-passed}
+use Rattle.session_record.proofs.Refusals.{check-refused, check-passed}
 use Rattle.session.proofs.Obeying.{call-refused, call-end, call-read, called}
 use Rattle.session.proofs.PassedCalls.{call-passed}
 use Rattle.session.proofs.obey.Statement.{statement}

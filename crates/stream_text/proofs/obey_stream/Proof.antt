@@ -7,7 +7,7 @@ use borrow.Author.Needs.{needs}
 use Rattle.inputs.specs.Inputs.{checkedOf}
 use Rattle.inputs.specs.declared.Checked.the-variants.{Passed, Refused}
 use Rattle.session.specs.Call.{state}
-use Rattle.session.proofs.Refusals.{check-refused, check-passed}
+use Rattle.session_record.proofs.Refusals.{check-refused, check-passed}
 use Rattle.listing.specs.Listing.{listingBytes}
 use Rattle.listing.proofs.Writing.{front-nothing}
 use Rattle.stream_text.proofs.Parts.{textRefusal-short, textRefusal-holds, partIn-short, partIn-refused, partIn-passes, leaves-part, leaves-same, front-refusal}

@@ -1,7 +1,7 @@
 -- `mark` meets its contract: what was found stays, or the pose is looked at. Assumes nothing.
 use mathlib.Core.Path.{sym, _∙_}
 use borrow.Author.Needs.{needs}
-use Rattle.averaging.specs.Gathered.{marked}
+use Rattle.averaging.specs.Inner.Gathered.{marked}
 use Rattle.averaging.proofs.list.mark.Statement.{statement}
 use Rattle.averaging.proofs.list.mark.Tie as tie
 

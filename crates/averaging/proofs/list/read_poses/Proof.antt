@@ -48,8 +48,9 @@ use denote.Triple.Walked.{says, Stays, stay-dropped, walkOf, Walks, ends-at, wal
 use Rattle.arithmetic.specs.declared.pose.Pose.{Pose}
 use Rattle.arithmetic.proofs.pose.Pose as P
 use Rattle.arithmetic.proofs.pose.Pose.Laws as P′
-use Rattle.extrinsics.specs.Placed.{nowhere}
-use Rattle.averaging.specs.Gathered.{maxPoses, unreadOf, withPose, gatheredTo, gathered}
+use Rattle.arithmetic.specs.Pose.{nowhere}
+use Rattle.averaging.specs.Inner.Gathered.{unreadOf, withPose, gatheredTo, gathered}
+use Rattle.averaging.specs.Entry.{maxPoses}
 use Rattle.averaging.specs.declared.list.Gathered.{Gathered}
 use Rattle.averaging.proofs.Gathering.{gatheredTo-zero, gatheredTo-next, gatheredTo-all}
 use Rattle.averaging.proofs.Calling.{calls-plain}

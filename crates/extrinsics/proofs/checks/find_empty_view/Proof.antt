@@ -12,11 +12,11 @@ use lib.Dec.{T}
 use lib.Ieee.{Float}
 use lib.Bits.{bitAnd, and-mask}
 use Rattle.lists.specs.Masks.{inMask}
-use Rattle.extrinsics.specs.Rig.{rigGrid}
+use Rattle.placing.specs.Rig.{rigGrid}
 use Rattle.lists.specs.Finding.{lowest}
-use Rattle.inputs.specs.Finding.{foundOf}
+use Rattle.inputs.specs.Inner.Finding.{foundOf}
 use Rattle.extrinsics.specs.Outcome.{isEmptyView, lowestEmptyView}
-use Rattle.extrinsics.specs.declared.grid.Rig.{Rig}
+use Rattle.placing.specs.declared.grid.Rig.{Rig}
 use Rattle.lists.proofs.Lowest.{lowest-none-more, lowest-first, lowest-agree}
 use Rattle.extrinsics.proofs.MaskUnion.{InOneOf}
 use Rattle.extrinsics.proofs.EmptyViews.{isEmptyView-not-inMask}

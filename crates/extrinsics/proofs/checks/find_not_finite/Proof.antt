@@ -10,15 +10,15 @@ use mathlib.Core.List.{List}
 use borrow.Author.Needs.{needs}
 use lib.ListN.{getD}
 use lib.Ieee.{Float}
-use Rattle.extrinsics.specs.Rig.{maskedCell, rigCell, rigGrid}
+use Rattle.placing.specs.Rig.{maskedCell, rigCell, rigGrid}
 use Rattle.lists.specs.Finding.{lowest}
-use Rattle.inputs.specs.Finding.{foundOf}
+use Rattle.inputs.specs.Inner.Finding.{foundOf}
 use Rattle.extrinsics.specs.Outcome.{isNotFinite, lowestNotFinite}
-use Rattle.extrinsics.specs.declared.grid.Cell.{Cell}
-use Rattle.extrinsics.specs.declared.grid.Cell.the-variants.{Empty}
-use Rattle.extrinsics.specs.declared.grid.Rig.{Rig}
+use Rattle.placing.specs.declared.grid.Cell.{Cell}
+use Rattle.placing.specs.declared.grid.Cell.the-variants.{Empty}
+use Rattle.placing.specs.declared.grid.Rig.{Rig}
 use Rattle.lists.proofs.Lowest.{lowest-none-more, lowest-first}
-use Rattle.extrinsics.proofs.ViewCells.{row-inside, cellOf-rigCell, pose-inside, pose-place-lt, cell-place-lt}
+use Rattle.placing.proofs.ViewCells.{row-inside, cellOf-rigCell, pose-inside, pose-place-lt, cell-place-lt}
 use Rattle.extrinsics.proofs.checks.find_not_finite.Statement.{statement}
 use Rattle.extrinsics.proofs.checks.find_not_finite.Tie as tie
 

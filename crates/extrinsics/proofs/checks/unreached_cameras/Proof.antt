@@ -10,10 +10,9 @@ use borrow.Author.Tests.{eq-eqb, ne-eqb}
 use lib.ListN.{getD}
 use lib.Dec.{eqb}
 use lib.Pow.{pow-mono}
-use Rattle.limits.specs.Limits.{notPlacedByte}
-use Rattle.extrinsics.specs.Grid.{spots, hasPlace}
-use Rattle.chains.specs.Trees.{treeOf}
-use Rattle.extrinsics.specs.Rig.{rigGrid}
+use Rattle.chains.specs.Inner.Trees.{notPlacedByte, treeOf}
+use Rattle.placing.specs.Grid.{spots, hasPlace}
+use Rattle.placing.specs.Rig.{rigGrid}
 use Rattle.lists.specs.Finding.{powerSum}
 use Rattle.extrinsics.specs.Outcome.{unreachedSet}
 use Rattle.chains.specs.declared.Tree.{Tree}

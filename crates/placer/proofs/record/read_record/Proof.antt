@@ -7,19 +7,21 @@ use borrow.Author.Count.{below-none, below-more}
 use borrow.Author.Needs.{needs}
 use lib.ListN.{length, getD}
 use lib.Seq.{getD-set-same, getD-set-other}
-use Rattle.session.specs.declared.Session.{Session}
+use Rattle.limits.specs.Limits.{maxCameras}
+use Rattle.session_record.specs.declared.Session.{Session}
+use Rattle.placer.specs.Step.{viewsWord, camerasWord, referenceWord}
 use Rattle.placer.proofs.Records.{masks-read}
 use Rattle.placer.proofs.record.read_record.Statement.{statement}
 use Rattle.placer.proofs.record.read_record.Tie as tie
 
 abbrev withSizes : List ℕ → List ℕ → Session
-withSizes m words = record { masks = m; views = getD words 16 0; cameras = getD words 17 0; reference = getD words 18 0 }
+withSizes m words = record { masks = m; views = getD words viewsWord 0; cameras = getD words camerasWord 0; reference = getD words referenceWord 0 }
 
 abbrev Inv-loop : tie.InvT-loop
-Inv-loop words masks₀ camera₀ masks camera = (camera ≤ 16) × (length masks ≡ 16) × ((c : ℕ) → c < camera → getD masks c 0 ≡ getD words c 0)
+Inv-loop words masks₀ camera₀ masks camera = (camera ≤ maxCameras) × (length masks ≡ maxCameras) × ((c : ℕ) → c < camera → getD masks c 0 ≡ getD words c 0)
 
 abbrev μ-loop : tie.MeasureT-loop
-μ-loop words masks₀ camera₀ masks camera = 16 - camera
+μ-loop words masks₀ camera₀ masks camera = maxCameras - camera
 
 loop-holds : tie.Need-loop-holds Inv-loop μ-loop
 loop-holds c = (search needs, refl, below-none _)

@@ -6,15 +6,16 @@ use borrow.Author.Count.{below-none, below-more}
 use borrow.Author.Needs.{needs}
 use lib.ListN.{length, getD}
 use lib.Seq.{getD-set-same, getD-set-other}
+use Rattle.limits.specs.Limits.{maxCameras}
 use Rattle.placer.proofs.Records.{record-written}
 use Rattle.placer.proofs.record.write_record.Statement.{statement}
 use Rattle.placer.proofs.record.write_record.Tie as tie
 
 abbrev Inv-loop : tie.InvT-loop
-Inv-loop words₀ session camera₀ words camera = (camera ≤ 16) × (length words ≡ length words₀) × ((c : ℕ) → c < camera → getD words c 0 ≡ getD (session .masks) c 0)
+Inv-loop words₀ session camera₀ words camera = (camera ≤ maxCameras) × (length words ≡ length words₀) × ((c : ℕ) → c < camera → getD words c 0 ≡ getD (session .masks) c 0)
 
 abbrev μ-loop : tie.MeasureT-loop
-μ-loop words₀ session camera₀ words camera = 16 - camera
+μ-loop words₀ session camera₀ words camera = maxCameras - camera
 
 loop-holds : tie.Need-loop-holds Inv-loop μ-loop
 loop-holds c = (search needs, refl, below-none _)

@@ -3,8 +3,8 @@ use native.Mathlib.Omega.{arith}
 use mathlib.Core.Path.{sym, ap, _∙_, subst}
 use borrow.Author.Needs.{needs}
 use Rattle.session.specs.Call.{state}
-use Rattle.command.specs.Parts.{ParsedAs}
-use Rattle.session.specs.Steps.{resultOf}
+use Rattle.command.specs.Inner.Parts.{ParsedAs}
+use Rattle.session.specs.Inner.Steps.{resultOf}
 use Rattle.session.specs.declared.Step.{Step}
 use Rattle.session.proofs.PassedCalls.{call-passed}
 use Rattle.session.proofs.ReadCommands.{read-complete, read-broken, read-unknown}

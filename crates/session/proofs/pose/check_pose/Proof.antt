@@ -8,7 +8,7 @@ use borrow.Author.Needs.{needs}
 use Rattle.refusal.specs.Table.{refuseIf, orElse, firstOf}
 use Rattle.inputs.specs.Inputs.{checkedOf}
 use Rattle.session.specs.Pose.{poseCommandRefusal}
-use Rattle.session.proofs.PossibleRecords.{cell-inside}
+use Rattle.session_record.proofs.PossibleRecords.{cell-inside}
 use Rattle.session.proofs.pose.check_pose.Statement.{statement}
 use Rattle.session.proofs.pose.check_pose.Tie as tie
 

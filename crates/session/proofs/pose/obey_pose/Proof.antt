@@ -11,12 +11,12 @@ use Rattle.command.specs.Command.{edit, poseWidth}
 use Rattle.session.specs.Pose.{bufferAfterPose}
 use Rattle.session.specs.Commands.{commandRefusal, sessionAfter, bufferAfter}
 use Rattle.session.specs.Call.{state, result, replyTo, stateAfter, firstAfter, secondAfter}
-use Rattle.command.specs.Parts.{placeAt}
-use Rattle.session.specs.Steps.{resultOf}
-use Rattle.session.specs.declared.Session.{Session}
+use Rattle.command.specs.Inner.Parts.{placeAt}
+use Rattle.session.specs.Inner.Steps.{resultOf}
+use Rattle.session_record.specs.declared.Session.{Session}
 use Rattle.session.specs.declared.Step.{Step}
 use Rattle.session.specs.declared.Reply.the-variants.{Accepted}
-use Rattle.session.proofs.Refusals.{check-refused, check-passed}
+use Rattle.session_record.proofs.Refusals.{check-refused, check-passed}
 use Rattle.session.proofs.Obeying.{obeyed-refused, obeyed-accepted}
 use Rattle.session.proofs.PoseCommands.{pose-accepted}
 use Rattle.session.proofs.pose.obey_pose.Statement.{statement}

@@ -2,8 +2,8 @@
 use native.Mathlib.Omega.{arith}
 use borrow.Author.Needs.{needs}
 use Rattle.arithmetic.specs.Pose.{flat}
-use Rattle.extrinsics.proofs.Filling.{put-tail}
-use Rattle.session.specs.Session.{cellStart}
+use Rattle.placing.proofs.Filling.{put-tail}
+use Rattle.session_record.specs.Session.{cellStart}
 use Rattle.session.specs.Pose.{bufferAfterPose}
 use Rattle.session.proofs.pose.store_pose.Statement.{statement}
 use Rattle.session.proofs.pose.store_pose.Tie as tie

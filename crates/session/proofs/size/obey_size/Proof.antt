@@ -4,11 +4,11 @@ use borrow.Author.Needs.{needs}
 use Rattle.command.specs.Command.{size, edit}
 use Rattle.session.specs.Commands.{commandRefusal, sessionAfter, bufferAfter}
 use Rattle.session.specs.Call.{state, result, replyTo, firstAfter, secondAfter, stateAfter}
-use Rattle.session.specs.Steps.{resultOf}
-use Rattle.session.specs.declared.Session.{Session}
+use Rattle.session.specs.Inner.Steps.{resultOf}
+use Rattle.session_record.specs.declared.Session.{Session}
 use Rattle.session.specs.declared.Step.{Step}
 use Rattle.session.specs.declared.Reply.the-variants.{Accepted}
-use Rattle.session.proofs.Refusals.{check-refused, check-passed}
+use Rattle.session_record.proofs.Refusals.{check-refused, check-passed}
 use Rattle.session.proofs.Obeying.{obeyed-refused, obeyed-accepted}
 use Rattle.session.proofs.SizeCommands.{size-again, size-refusal}
 use Rattle.session.proofs.size.obey_size.Statement.{statement}

@@ -4,7 +4,7 @@ use mathlib.Core.Path.{sym, ap, _∙_}
 use borrow.Author.Needs.{needs}
 use Rattle.command.specs.Command.{solve}
 use Rattle.session.specs.Call.{state}
-use Rattle.session.specs.Steps.{resultOf}
+use Rattle.session.specs.Inner.Steps.{resultOf}
 use Rattle.session.specs.declared.Step.{Step}
 use Rattle.session.proofs.Obeying.{obeyed-refused}
 use Rattle.session.proofs.SolveCommands.{solve-without-size, session-fits, obeyed-solve-refused, obeyed-solve-solved}

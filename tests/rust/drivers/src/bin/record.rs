@@ -1,4 +1,4 @@
-//! Records the sample that crates/replay replays: `record STDIN STDOUT` writes the program's input, and what the Rust's side answers to it.
+//! Records the sample that crates/test_replay replays: `record STDIN STDOUT` writes the program's input, and what the Rust's side answers to it.
 
 use drivers::grid::{finite_bits, pose};
 use drivers::oracle::bits;

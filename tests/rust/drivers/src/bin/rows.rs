@@ -1,4 +1,4 @@
-//! Prints the exact rows of crates/arithmetic, crates/average and crates/cases as the Rust computes them: a name and its doubles' bits on each
+//! Prints the exact rows of crates/arithmetic, crates/mean and crates/claims_cases as the Rust computes them: a name and its doubles' bits on each
 //! line. Poses come first, then products, inverses and dot products by nalgebra, or what stands in for it, averages by `average_isometries`, and whole
 //! grids by `estimate_extrinsics_from_cam_target_poses`. tests/rows.sh compares them with the numbers that stand in the crates.
 

@@ -1,0 +1,2 @@
+-- What the functions of `averaging` promise each other; no demand rests on it. Definitions only.
+pub mod Gathered

@@ -1,0 +1,3 @@
+-- The rows and the listing hold: the definitions compute them.
+pub mod Paper
+pub mod Rows

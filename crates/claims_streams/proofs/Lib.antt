@@ -1,0 +1,20 @@
+-- The theorems on records, streams, held poses, Solve and one call, and the laws they rest on.
+pub mod Accepting
+pub mod Sound
+pub mod Cells
+pub mod Edits
+pub mod Records
+pub mod Usable
+pub mod Contents
+pub mod Streams
+pub mod Striking
+pub mod Held
+pub mod SolveDirect
+pub mod RustGrids
+pub mod SolveDemands
+pub mod SolveInStreams
+pub mod FiniteHeld
+pub mod DecidingParts
+pub mod CallWords
+pub mod AcceptedCalls
+pub mod CallDemand1

@@ -1,0 +1,3 @@
+-- What the functions of `placer` promise each other: nothing that a statement rests on. Definitions only.
+pub mod Gathered
+pub mod Records

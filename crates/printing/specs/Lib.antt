@@ -1,3 +1,0 @@
--- What a whole stream prints, document 01's example of it, and rows of streams beside their texts. Definitions only; the theorems are in proofs/.
-pub mod Printed
-pub mod Rows

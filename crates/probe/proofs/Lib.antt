@@ -1,3 +1,0 @@
--- The laws of this crate, beside the proofs of its functions. Assumes nothing.
-pub mod Products
-pub mod Replies
