@@ -136,6 +136,10 @@ def pose_cases():
     for number in (math.nan, math.inf, -math.inf):
         for place in range(7):
             yield Case('number %d is %s' % (place, number), sized + pose(2, 1, [number if n == place else GOOD[n] for n in range(7)]))
+    for bits in (0xfff8000000000000, 0x7ff0000000000001, 0xffffffffffffffff):
+        offered = bytearray(pose(2, 1, GOOD))
+        offered[3:11] = bits.to_bytes(8, 'little')
+        yield Case('a NaN of bits %016x' % bits, sized + bytes(offered))
     yield Case('a refused pose is not held', sized + pose(1, 1, (math.nan,) * 7) + pose(1, 1, GOOD))
     extremes = (1.7976931348623157e308, -5e-324, -0.0, 2.2250738585072014e-308, 0.1, -1e-300, 1e300)
     yield Case('the least and the largest numbers', size(1, 1, 0) + pose(0, 0, extremes) + SOLVE)

@@ -1,8 +1,8 @@
 -- The product and the inverse of poses a second time, number by number as document 01's "Poses and roots" reads them, from nothing of `Pose`: what
 -- nalgebra supplies to the Rust. That `Pose` says the same of all poses is `mulIso-mulPose` and `inverseIso-inversePose` of proofs/Numbers.antt.
--- Rests on the operators of `Double`.
+-- Rests on the operators of `Rounded`.
 use lib.Ieee.{neg}
-use Rattle.arithmetic.specs.Double.{_⊕_, _⊖_, _⊗_, Two}
+use Rattle.arithmetic.specs.Rounded.{_⊕_, _⊖_, _⊗_, Two}
 use Rattle.arithmetic.specs.declared.pose.Vec3.{Vec3}
 use Rattle.arithmetic.specs.declared.pose.Quaternion.{Quaternion}
 use Rattle.arithmetic.specs.declared.pose.Pose.{Pose}

@@ -109,12 +109,13 @@ finiteDoubles =
     (0x7fef_ffff_ffff_ffff ∷ 1 ∷ 0 ∷ minusZero ∷ 0x7ff0_0000_0000_0000 ∷ 0xfff0_0000_0000_0000 ∷ 0x7ff8_0000_0000_0000 ∷ []))
     (1 ∷ 1 ∷ 1 ∷ 1 ∷ 0 ∷ 0 ∷ 0 ∷ [])
 
--- "Root of −0 is −0, of +infinity itself, of anything below zero or NaN a NaN."
+-- "Root of −0 is −0, of +infinity itself, of anything below zero or NaN a NaN." Then the greatest subnormal, and 2^1023 with its last bits 3: a last bit more or
+-- less in the number is one in the root.
 unfoldable pub rootEnds : Row
 unfolding bits rootOf
 rootEnds =
-    row (map (λ (b : ℕ). bits (rootOf (double b))) (0 ∷ minusZero ∷ 0x7ff0_0000_0000_0000 ∷ 0xfff0_0000_0000_0000 ∷ minusOne ∷ 0x7ff8_0000_0000_0000 ∷ []))
-    (0 ∷ minusZero ∷ 0x7ff0_0000_0000_0000 ∷ 0x7ff8_0000_0000_0000 ∷ 0x7ff8_0000_0000_0000 ∷ 0x7ff8_0000_0000_0000 ∷ [])
+    row (map (λ (b : ℕ). bits (rootOf (double b))) (0 ∷ minusZero ∷ 0x7ff0_0000_0000_0000 ∷ 0xfff0_0000_0000_0000 ∷ minusOne ∷ 0x7ff8_0000_0000_0000 ∷ 0x000f_ffff_ffff_ffff ∷ 0x7fe0_0000_0000_0003 ∷ []))
+    (0 ∷ minusZero ∷ 0x7ff0_0000_0000_0000 ∷ 0x7ff8_0000_0000_0000 ∷ 0x7ff8_0000_0000_0000 ∷ 0x7ff8_0000_0000_0000 ∷ 0x1fff_ffff_ffff_ffff ∷ 0x5fe6_a09e_667f_3bcf ∷ [])
 
 unfoldable pub exactRows : List Row
 unfolding hamilton halfTurn finiteDoubles rootEnds

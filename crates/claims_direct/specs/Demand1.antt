@@ -9,7 +9,7 @@ use mathlib.Core.List.{List, [], _∷_, _++_}
 use lib.ListN.{length, getD}
 use lib.Ieee.{Float, nan}
 use lib.Ieee.Scale.{finite}
-use Rattle.limits.specs.Limits.{maxViews, maxCameras, firstNeeds, secondNeeds}
+use Rattle.limits.specs.Limits.{maxViews, maxCameras}
 use Rattle.claims_direct.specs.Deciding.{Check, naming, plain, Decides, LowestBelow}
 use Rattle.claims_direct.specs.Demand3.{RefusedBy, WellFormed, Chained, EveryCameraChained, EveryViewHolds, HoldsAPose, NamesUnchained}
 use Rattle.extrinsics.specs.declared.Outcome.{Outcome}
@@ -48,7 +48,7 @@ module _ (counts marks : List ℕ) (floats : List Float) (reference : ℕ) (firs
   LengthsWrong =
       (length marks ≢ length counts * getD counts 0 0)
       ⊎ ((length floats ≢ 7 * (length counts * getD counts 0 0))
-      ⊎ ((firstRoom < firstNeeds (getD counts 0 0) (length counts)) ⊎ (secondRoom < secondNeeds (getD counts 0 0))))
+      ⊎ ((firstRoom < 7 * (getD counts 0 0 + length counts)) ⊎ (secondRoom < 2 * getD counts 0 0)))
 
   -- "Direct call order: [..] then 3 to 9." 4: "a view's count differs from view 0's; detail is the lowest such view." 6: "a mark above 1; detail is the
   -- lowest such cell."

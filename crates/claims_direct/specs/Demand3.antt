@@ -14,7 +14,7 @@ use Rattle.mean.specs.Average.{averageIsometries}
 use Rattle.arithmetic.specs.declared.pose.Pose.{Pose}
 use Rattle.refusal.specs.Table.{numberOf, detailOf}
 use Rattle.refusal.specs.declared.Refusal.{Refusal}
-use Rattle.limits.specs.Limits.{maxViews, maxCameras, oneView, parentPlace, linksPlace, firstNeeds, secondNeeds}
+use Rattle.limits.specs.Limits.{maxViews, maxCameras, oneView, parentPlace, linksPlace}
 use Rattle.chains.specs.Shared.{shared}
 use Rattle.claims_direct.specs.Deciding.{LowestBelow}
 use Rattle.chains.specs.Chains.{HasChain}
@@ -39,8 +39,8 @@ pub record WellFormed (counts marks : List ℕ) (floats : List Float) (reference
   -- Marks are "one per cell, floats [..] seven per cell", and no "answer is too short".
   pub mark-each : length marks ≡ length counts * getD counts 0 0
   pub seven-each : length floats ≡ 7 * (length counts * getD counts 0 0)
-  pub first-fits : firstNeeds (getD counts 0 0) (length counts) ≤ firstRoom
-  pub second-fits : secondNeeds (getD counts 0 0) ≤ secondRoom
+  pub first-fits : 7 * (getD counts 0 0 + length counts) ≤ firstRoom
+  pub second-fits : 2 * getD counts 0 0 ≤ secondRoom
   -- No "mark above 1", and no "non-finite number in a held [..] pose".
   pub mark-small : (i : ℕ) → i < length marks → getD marks i 0 ≤ 1
   pub finite-poses : (i : ℕ) → i < length marks → getD marks i 0 ≡ 1 → T (finitePose (poseAt floats (7 * i)))

@@ -7,11 +7,11 @@ use mathlib.Core.List.{List, [], _∷_, _++_, map}
 use lib.ListN.{length, getD, drop}
 use lib.Dec.{T}
 use lib.Ieee.{Float}
-use Rattle.arithmetic.specs.Pose.{finitePose, flat, poseAt}
+use Rattle.arithmetic.specs.Pose.{finitePose, poseAt}
 use Rattle.arithmetic.specs.declared.pose.Pose.{Pose}
 use Rattle.refusal.specs.declared.Refusal.{Refusal}
 use Rattle.refusal.specs.declared.Refusal.the-variants.{InsufficientData, InvalidReference, CountDiffers, Unreached, EmptyView}
-use Rattle.limits.specs.Limits.{maxViews, maxCameras, firstNeeds, secondNeeds}
+use Rattle.limits.specs.Limits.{maxViews, maxCameras}
 use Rattle.claims_direct.specs.RustStd.{Result, ok, err, neither}
 use Rattle.claims_direct.specs.Rust.{Error, insufficientData, invalidRefCamIdx, cameraCount, shareNoView, noValidCameraPoses, ExtrinsicPoses, numViews, numCameras}
 use Rattle.extrinsics.specs.declared.Outcome.{Outcome}
@@ -55,8 +55,8 @@ module _ (camSe3Target : List (List (Option Pose))) where
 
   -- Lent answers of so many floats and bytes are long enough.
   pub record RoomEnough (firstRoom secondRoom : ℕ) : Type 0 where
-    pub first-fits : firstNeeds (numCameras camSe3Target) (numViews camSe3Target) ≤ firstRoom
-    pub second-fits : secondNeeds (numCameras camSe3Target) ≤ secondRoom
+    pub first-fits : 7 * (numCameras camSe3Target + numViews camSe3Target) ≤ firstRoom
+    pub second-fits : 2 * numCameras camSe3Target ≤ secondRoom
 
   -- Room is asked for only where sizes and counts are right: the reference is one of the cameras, so that there are a view and a camera, and every
   -- view has as many. Elsewhere answers of any length will do, since 1 to 4 come before 5.
@@ -77,9 +77,14 @@ refusalOf (cameraCount vIdx) = CountDiffers vIdx
 refusalOf (shareNoView unreached) = Unreached (powersOf unreached)
 refusalOf (noValidCameraPoses vIdx) = EmptyView vIdx
 
+-- "x, y, z, then quaternion i, j, k, w."
+abbrev pub sevenOf : Pose → List Float
+sevenOf p =
+    p .translation .x ∷ p .translation .y ∷ p .translation .z ∷ p .rotation .i ∷ p .rotation .j ∷ p .rotation .k ∷ p .rotation .w ∷ []
+
 unfoldable pub flatAll : List Pose → List Float
 flatAll [] = []
-flatAll (p ∷ poses) = flat p ++ flatAll poses
+flatAll (p ∷ poses) = sevenOf p ++ flatAll poses
 
 -- "the transforms", number by number: the cameras' poses, then the views'.
 abbrev pub numbersOf : ExtrinsicPoses → List Float

@@ -10,7 +10,7 @@ use lib.ListN.{length}
 use lib.IntN.{pos}
 use lib.Ieee.{Float, binary64, neg, lt, eq, ofInt}
 use Rattle.root.specs.Root.{rootOf}
-use Rattle.arithmetic.specs.Double.{_⊕_, _⊗_, _⊘_, Zero, One}
+use Rattle.arithmetic.specs.Rounded.{_⊕_, _⊗_, _⊘_, Zero, One}
 use Rattle.arithmetic.specs.declared.pose.Vec3.{Vec3}
 use Rattle.arithmetic.specs.declared.pose.Quaternion.{Quaternion}
 use Rattle.arithmetic.specs.declared.pose.Pose.{Pose}

@@ -116,6 +116,16 @@ belowAll = 0 ∷ 0 ∷ 0 ∷ 0 ∷ 0 ∷ 0 ∷ 240 ∷ 255 ∷ []
 abbrev notANumber : List ℕ
 notANumber = 0 ∷ 0 ∷ 0 ∷ 0 ∷ 0 ∷ 0 ∷ 248 ∷ 127 ∷ []
 
+-- NaNs of other bits: the one that 0/0 gives on x86-64, the least, and all bits set.
+abbrev negativeNaN : List ℕ
+negativeNaN = 0 ∷ 0 ∷ 0 ∷ 0 ∷ 0 ∷ 0 ∷ 248 ∷ 255 ∷ []
+
+abbrev leastNaN : List ℕ
+leastNaN = 1 ∷ 0 ∷ 0 ∷ 0 ∷ 0 ∷ 0 ∷ 240 ∷ 127 ∷ []
+
+abbrev fullNaN : List ℕ
+fullNaN = 255 ∷ 255 ∷ 255 ∷ 255 ∷ 255 ∷ 255 ∷ 255 ∷ 255 ∷ []
+
 abbrev greatest : List ℕ
 greatest = 255 ∷ 255 ∷ 255 ∷ 255 ∷ 255 ∷ 255 ∷ 239 ∷ 127 ∷ []
 
@@ -214,7 +224,7 @@ posesInOrder =
     ∷ prints (sevenfold 1 0 infinity) ("no 23 256" ∷ [])
     ∷ [])
 
--- 7 for each of the seven numbers. The greatest finite double passes it, and so do four zeros for a rotation.
+-- 7 for each of the seven numbers, and for NaNs of any bits. The greatest finite double passes it, and so do four zeros for a rotation.
 unfoldable pub eachNumber : Row
 eachNumber =
     fresh
@@ -226,6 +236,9 @@ eachNumber =
     ∷ prints (pose 0 1 nought nought nought nought belowAll nought nought) ("no 7 1" ∷ [])
     ∷ prints (pose 0 1 nought nought nought nought nought notANumber nought) ("no 7 1" ∷ [])
     ∷ prints (pose 0 1 nought nought nought nought nought nought infinity) ("no 7 1" ∷ [])
+    ∷ prints (pose 0 1 negativeNaN nought nought nought nought nought nought) ("no 7 1" ∷ [])
+    ∷ prints (pose 0 1 nought leastNaN nought nought nought nought nought) ("no 7 1" ∷ [])
+    ∷ prints (pose 0 1 nought nought nought nought nought nought fullNaN) ("no 7 1" ∷ [])
     ∷ prints (sevenfold 0 1 greatest) []
     ∷ prints (sevenfold 0 0 nought) []
     ∷ prints (sevenfold 0 1 nought) ("no 23 1" ∷ [])

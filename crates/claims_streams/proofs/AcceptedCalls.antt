@@ -58,7 +58,7 @@ module _ (t : State) (stream : List ℕ) (at : ℕ) where
           bit-set = rw (bit-here (t .session .masks) view camera known (here .not-held)) tt;
           other-bits = bit-elsewhere (t .session .masks) view camera known (here .not-held);
           mask-count = length-set (t .session .masks) camera _;
-          seven-written = λ k h. getD-put-within (t .buffer) (namedStart stream at) p inside k h ∙ number-offered stream (at + 3) k h;
+          seven-written = λ k h. getD-put-within (t .buffer) (namedStart stream at) p inside k h ∙ number-offered stream at k h;
           others-kept = λ i outside.
               ⊎-elim (getD-put-before (t .buffer) (namedStart stream at) p inside i) (getD-put-after (t .buffer) (namedStart stream at) p inside i) outside;
           buffer-length = buffer-kept t u (edit (place view camera p)) e;

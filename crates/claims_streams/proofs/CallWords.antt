@@ -2,7 +2,7 @@
 -- own checks. Assumes nothing.
 use Prim.Native.Nat.{ℕ, zero, suc, _+_, _*_, _≤_, _<_}
 use native.Mathlib.Decide.{ℕ-discrete, decLe}
-use native.Mathlib.Nat.{eq-zero-or-pos}
+use native.Mathlib.Nat.{eq-zero-or-pos, add-assoc}
 use native.Mathlib.Omega.{arith}
 use mathlib.Core.Path.{_≡_, refl, sym, ap, subst, _∙_}
 use mathlib.Core.Logic.{_≢_, _↔_, _⊎_, inl, inr, ⊎-elim}
@@ -11,7 +11,7 @@ use mathlib.Core.Option.{Option, none, some}
 use mathlib.Core.List.{List, [], _∷_}
 use lib.ListN.{length, getD}
 use lib.Dec.{T, leb, ltb}
-use lib.Ieee.{Float, nan}
+use lib.Ieee.{Float, binary64, ofBits, nan}
 use lib.Ieee.Scale.{finite}
 use borrow.Author.Tests.{ltb-true, ltb-false, leb-true, leb-false, eqb-true, eqb-false, not-true, not-false, lt-ltb, le-leb, eq-eqb, ne-eqb}
 use Rattle.arithmetic.specs.Pose.{poseAt, finitePose, flat}
@@ -31,7 +31,7 @@ use Rattle.claims_direct.proofs.Carrying.{refuseIf-carries, refuseIf-plain}
 use Rattle.claims_direct.proofs.DirectWords.{sizeFound, sizes-carried, direct-carried}
 use Rattle.claims_direct.proofs.FinitePoses.{finitePose-numbers}
 use Rattle.claims_direct.proofs.GridRefusals.{orElse-none}
-use Rattle.command.specs.Command.{Edit, size, place, Command, edit, solve, complete, broken, unknown, sizeByte, poseByte, solveByte, sizeWidth, poseWidth, solveWidth, doubleAt, offeredPose, widthOf, parse}
+use Rattle.command.specs.Command.{Edit, size, place, Command, edit, solve, complete, broken, unknown, sizeByte, poseByte, solveByte, sizeWidth, poseWidth, solveWidth, wordAt, doubleAt, offeredPose, widthOf, parse}
 use Rattle.command.specs.Inner.Parts.{widthOrZero}
 use Rattle.command.proofs.Decoding.{parse-foreign, parse-short, parse-size, parse-place, parse-solve}
 use Rattle.session_record.specs.Session.{hasSize, sessionGrid, namedCell, possible}
@@ -40,7 +40,7 @@ use Rattle.session_record.specs.declared.Session.{Session}
 use Rattle.session.specs.Call.{maxStream, State, callRefusal, unusable}
 use Rattle.claims_streams.specs.Stream.{Usable}
 use Rattle.claims_streams.specs.DirectInputs.{countsOf, marksOf, floatsOf}
-use Rattle.claims_streams.specs.CallDemand1.{Begins, BeginsOfWidth, operand, OffersNotFinite, acceptedSizes, NoSizeYet, SizeBefore, sizeCommandChecks, poseCommandChecks, solveCommandChecks, CannotBeUsed, firstChecks, readingChecks}
+use Rattle.claims_streams.specs.CallDemand1.{lowByteFirst, Begins, BeginsOfWidth, operand, floatOffered, OffersNotFinite, acceptedSizes, NoSizeYet, SizeBefore, sizeCommandChecks, poseCommandChecks, solveCommandChecks, CannotBeUsed, firstChecks, readingChecks}
 use Rattle.claims_streams.proofs.Accepting.{solve-checks}
 use Rattle.claims_streams.proofs.Edits.Law.{ViewsAfter}
 use Rattle.claims_streams.proofs.Edits.Size.{size-checks}
@@ -304,16 +304,29 @@ module _ (stream : List ℕ) (at : ℕ) (t : State) (left : Left (t .session)) w
 -- ---- Pose: 21, 12, 23, 7
 
 -- The seven floats of an offered pose, as they stand in the stream.
-pub number-offered : (stream : List ℕ) (from k : ℕ) → k < 7 → getD (flat (offeredPose stream from)) k nan ≡ doubleAt stream (from + 8 * k)
+-- Eight bytes read one after the other are the word of the definitions.
+lowByteFirst-word : (stream : List ℕ) (from : ℕ) → lowByteFirst stream 8 from ≡ wordAt stream from
+unfolding lowByteFirst wordAt
+lowByteFirst-word stream from = simp add-assoc (omega arith)
+
+double-words : (stream : List ℕ) (from : ℕ) → doubleAt stream from ≡ ofBits binary64 (lowByteFirst stream 8 from)
+unfolding doubleAt
+double-words stream from = ap (ofBits binary64) (sym (lowByteFirst-word stream from))
+
+number-read : (stream : List ℕ) (from k : ℕ) → k < 7 → getD (flat (offeredPose stream from)) k nan ≡ doubleAt stream (from + 8 * k)
 unfolding offeredPose
-number-offered stream from zero l = ap (doubleAt stream) (omega arith)
-number-offered stream from (suc zero) l = refl
-number-offered stream from (suc (suc zero)) l = refl
-number-offered stream from (suc (suc (suc zero))) l = refl
-number-offered stream from (suc (suc (suc (suc zero)))) l = refl
-number-offered stream from (suc (suc (suc (suc (suc zero))))) l = refl
-number-offered stream from (suc (suc (suc (suc (suc (suc zero)))))) l = refl
-number-offered stream from (suc (suc (suc (suc (suc (suc (suc k))))))) l = absurd (omega arith)
+number-read stream from zero l = ap (doubleAt stream) (omega arith)
+number-read stream from (suc zero) l = refl
+number-read stream from (suc (suc zero)) l = refl
+number-read stream from (suc (suc (suc zero))) l = refl
+number-read stream from (suc (suc (suc (suc zero)))) l = refl
+number-read stream from (suc (suc (suc (suc (suc zero))))) l = refl
+number-read stream from (suc (suc (suc (suc (suc (suc zero)))))) l = refl
+number-read stream from (suc (suc (suc (suc (suc (suc (suc k))))))) l = absurd (omega arith)
+
+-- Number k of the seven is the one that the words read.
+pub number-offered : (stream : List ℕ) (at k : ℕ) → k < 7 → getD (flat (offeredPose stream (at + 3))) k nan ≡ floatOffered stream at k
+number-offered stream at k l = number-read stream (at + 3) k l ∙ double-words stream (at + 3 + 8 * k)
 
 poseAt-own-flat : (p : Pose) → poseAt (flat p) 0 ≡ p
 unfolding poseAt
@@ -331,10 +344,10 @@ module _ (stream : List ℕ) (at : ℕ) where
         λ (k, l, f). sym same ∙ numbers .1 (k, l, number-there k l ∙ f),
       )
     where
-      number-there : (k : ℕ) → k < 7 → finite (getD (flat offer) (0 + k) nan) ≡ finite (doubleAt stream (at + 3 + 8 * k))
+      number-there : (k : ℕ) → k < 7 → finite (getD (flat offer) (0 + k) nan) ≡ finite (floatOffered stream at k)
       number-there k l =
           let from-zero : 0 + k ≡ k = omega arith in
-          ap (λ (i : ℕ). finite (getD (flat offer) i nan)) from-zero ∙ ap finite (number-offered stream (at + 3) k l)
+          ap (λ (i : ℕ). finite (getD (flat offer) i nan)) from-zero ∙ ap finite (number-offered stream at k l)
 
   module _ (t : State) (left : Left (t .session)) where
     abbrev view : ℕ

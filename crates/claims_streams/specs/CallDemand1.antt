@@ -2,21 +2,21 @@
 -- detail, and in which order; when it is the end, accepted or solved; what a refusal, an accepted Size, an accepted Pose and a solved call leave; and
 -- where the next command begins. Rests on the checks of `Deciding` and `Demand1`, on `Left`, which says by the commands themselves what they leave,
 -- and on the direct call of `DirectInputs`.
-use Prim.Native.Nat.{ℕ, suc, _+_, _*_, _≤_, _<_}
+use Prim.Native.Nat.{ℕ, zero, suc, _+_, _*_, _≤_, _<_}
 use mathlib.Core.Path.{_≡_}
 use mathlib.Core.Logic.{_≢_, _↔_, _⊎_}
 use mathlib.Core.Bool.{false}
 use mathlib.Core.List.{List, [], _∷_, _++_}
 use lib.ListN.{length, getD}
 use lib.Dec.{T}
-use lib.Ieee.{nan}
+use lib.Ieee.{Float, binary64, ofBits, nan}
 use lib.Ieee.Scale.{finite}
 use Rattle.refusal.specs.Table.{numberOf, detailOf}
 use Rattle.refusal.specs.declared.Refusal.{Refusal}
 use Rattle.lists.specs.Masks.{inMask}
 use Rattle.claims_direct.specs.Deciding.{Check, naming, plain, Decides, AllSilent}
 use Rattle.claims_direct.specs.Demand1.{sizeChecks, gridChecks, BeyondUnchanged}
-use Rattle.command.specs.Command.{Edit, size, place, edit, solve, sizeByte, poseByte, solveByte, sizeWidth, poseWidth, solveWidth, doubleAt}
+use Rattle.command.specs.Command.{Edit, size, place, edit, solve, sizeByte, poseByte, solveByte, sizeWidth, poseWidth, solveWidth}
 use Rattle.session_record.specs.Session.{bufferLength}
 use Rattle.session.specs.Commands.{Left, left-fresh, left-after}
 use Rattle.session.specs.Call.{maxStream, firstLength, secondLength, State, Result}
@@ -29,6 +29,11 @@ use Rattle.claims_streams.specs.DirectInputs.{marksOf, floatsOf}
 unfoldable pub when : Type 0 → List Check → List Check
 when P [] = []
 when P (c ∷ later) = naming (c .number) (λ d. P × c .Says d) ∷ when P later
+
+-- So many bytes from a place on, low byte first.
+unfoldable pub lowByteFirst : List ℕ → ℕ → ℕ → ℕ
+lowByteFirst stream zero from = 0
+lowByteFirst stream (suc n) from = getD stream from 0 + 256 * lowByteFirst stream n (from + 1)
 
 -- ---- what stands at an offset: "A command is one byte followed by operands of fixed widths."
 
@@ -48,10 +53,13 @@ module _ (stream : List ℕ) (at : ℕ) where
   abbrev pub namedStart : ℕ
   namedStart = 7 * (operand 1 * 16 + operand 2)
 
-  -- A non-finite number among the seven floats of a Pose, which follow its byte, view and camera: "Floats are the 64 bits of an IEEE 754 double, low
-  -- byte first."
+  -- Number k of the seven floats of a Pose, which follow its byte, view and camera: "Floats are the 64 bits of an IEEE 754 double, low byte first."
+  abbrev pub floatOffered : ℕ → Float
+  floatOffered k = ofBits binary64 (lowByteFirst stream 8 (at + 3 + 8 * k))
+
+  -- A non-finite number among them.
   abbrev pub OffersNotFinite : Type 0
-  OffersNotFinite = (k : ℕ) × (k < 7) × (finite (doubleAt stream (at + 3 + 8 * k)) ≡ false)
+  OffersNotFinite = (k : ℕ) × (k < 7) × (finite (floatOffered k) ≡ false)
 
 -- ---- the checks of a command
 
@@ -154,7 +162,7 @@ pub record PoseLeaves (t : State) (stream : List ℕ) (at : ℕ) (t′ : State) 
       → inMask (getD (t′ .session .masks) c 0) v ≡ inMask (getD (t .session .masks) c 0) v
   pub mask-count : length (t′ .session .masks) ≡ length (t .session .masks)
   -- The seven floats of the stream, in their order, are the cell's seven.
-  pub seven-written : (k : ℕ) → k < 7 → getD (t′ .buffer) (namedStart stream at + k) nan ≡ doubleAt stream (at + 3 + 8 * k)
+  pub seven-written : (k : ℕ) → k < 7 → getD (t′ .buffer) (namedStart stream at + k) nan ≡ floatOffered stream at k
   -- "an accepted Pose writes those seven only"
   pub others-kept : (i : ℕ) → (i < namedStart stream at) ⊎ (namedStart stream at + 7 ≤ i) → getD (t′ .buffer) i nan ≡ getD (t .buffer) i nan
   pub buffer-length : length (t′ .buffer) ≡ length (t .buffer)
