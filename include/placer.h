@@ -53,11 +53,12 @@ enum placer_refusal {
     PLACER_EMPTY_VIEW = 9,        /* the lowest view without poses */
     PLACER_UNKNOWN_COMMAND = 10,  /* the byte */
     PLACER_TRUNCATED = 11,        /* the offset of the command that the stream ends within, at which to go on once it is longer; the length for an offset past the end */
-    PLACER_OUTSIDE_RIG = 12,      /* view * 256 + camera */
+    PLACER_OUTSIDE_RIG = 12,      /* view * 256 + camera, of a cell outside the sizes */
     PLACER_TOO_LONG = 13,         /* a stream of more than 65,536 bytes */
-    PLACER_NO_SIZE = 21,          /* Pose or Solve before an accepted Size */
+    PLACER_NO_SIZE = 21,          /* Pose, Withdraw or Solve before an accepted Size */
     PLACER_SIZE_AGAIN = 22,       /* Size after an accepted Size */
-    PLACER_HELD_ALREADY = 23      /* view * 256 + camera */
+    PLACER_HELD_ALREADY = 23,     /* view * 256 + camera, of a cell that is held already */
+    PLACER_NOT_HELD = 24          /* view * 256 + camera, of a cell to withdraw that holds no pose */
 };
 
 /* The square root of IEEE 754: the nearest double, ties to even; of a NaN or of anything below zero a NaN. */
@@ -85,20 +86,22 @@ uint64_t placer_estimate(const uint32_t *counts, size_t counts_length, const uin
 
 /* What placer_step replies where nothing is refused. Unlike placer_estimate's, its 0 is no success but the end: compare with these, not with 0. */
 #define PLACER_END 0      /* the offset is the stream's length */
-#define PLACER_ACCEPTED 1 /* Size or Pose was obeyed */
+#define PLACER_ACCEPTED 1 /* Size, Pose or Withdraw was obeyed */
 #define PLACER_SOLVED 2   /* Solve was obeyed: the answers hold the rig, as placer_estimate leaves it */
 
 /* Obeys the one command at an offset of a stream, and sets `next` to the offset of the next one:
- *   0x01 Size:  views, cameras, reference, one byte each
- *   0x02 Pose:  view, camera, one byte each, then seven doubles, low byte first
+ *   0x01 Size:     views, cameras, reference, one byte each
+ *   0x02 Pose:     view, camera, one byte each, then seven doubles, low byte first
  *   0x03 Solve
+ *   0x04 Withdraw: view, camera, one byte each: takes that cell's pose back
  * What a session holds is its record, `session`, of exactly PLACER_RECORD_WORDS words that are all 0 at first (one mask of views for each camera, bit v
  * for view v; then the views, the cameras and the reference), and its poses, `buffer`, of exactly PLACER_BUFFER_FLOATS
  * doubles, a cell's seven from 7 * (view * 16 + camera), which the caller keeps from call to call and need not fill. Both answers have at
- * least PLACER_FIRST_FLOATS and PLACER_SECOND_BYTES. An accepted Size writes the record, an accepted Pose the record and the buffer, a
+ * least PLACER_FIRST_FLOATS and PLACER_SECOND_BYTES. An accepted Size or Withdraw writes the record, an accepted Pose the record and the buffer, a
  * Solve that is obeyed both answers, and no call writes anything else but `next`: whoever saves record and buffer has saved the session.
+ * Withdraw clears one bit of one mask. The cell's seven doubles stay in the buffer, where nothing looks at them until another Pose of the cell writes them.
  * Refused: 13 and then 5 before all else; 10 and 11; 21 and 22; by Size its views by 1, then 2, its cameras by 1, then 2, then 3; 12, 23 and 7 by Pose;
- * 7, 8 and 9 by Solve. After 5, 10, 11 and 13 `next` is the stream's length, and after any other the offset of the next command.
+ * 12 and 24 by Withdraw; 7, 8 and 9 by Solve. After 5, 10, 11 and 13 `next` is the stream's length, and after any other the offset of the next command.
  * Where a stream arrives in pieces, 11 means that the command at `at` is not whole yet: call again at the SAME offset with the longer
  * stream (or at 0 of one that begins with that command). Who goes on at `next` loses it: the same stream is answered with PLACER_END there,
  * and a longer one is read from within the command. */

@@ -9,7 +9,7 @@ import random
 import struct
 
 import oracle
-from commands import SOLVE, pose, size
+from commands import SOLVE, pose, size, withdraw
 
 GOOD = (0.5, -0.25, 2.0, 0.0, 0.0, 0.0, 1.0)
 LISTING = size(1, 1, 0) + pose(0, 0, (1.0, 0.0, 0.0, 0.0, 0.0, 0.0, 1.0)) + SOLVE
@@ -76,7 +76,7 @@ def stream_cases():
     yield Case('an offset far past the end', LISTING, at=2 ** 63 - 1)
     yield Case('an offset in the middle', LISTING, at=4)
     yield Case('an offset within a command', LISTING, at=1)
-    for byte in (0, 4, 255):
+    for byte in (0, 9, 255):
         yield Case('unknown byte %d' % byte, bytes([byte]) + LISTING)
     yield Case('an unknown byte after commands', LISTING + bytes([7]) + SOLVE)
     yield Case('an unknown byte goes before no sizes', bytes([9, 2, 3]))
@@ -145,6 +145,82 @@ def pose_cases():
     yield Case('the least and the largest numbers', size(1, 1, 0) + pose(0, 0, extremes) + SOLVE)
 
 
+# ---- poses taken back
+
+BAD = (1e300, -1e300, 1e300, 0.0, 1.0, 0.0, 0.0)
+
+
+def withdraw_cases():
+    sized = size(3, 2, 0)
+    held = sized + pose(2, 1, GOOD)
+    yield Case('a withdrawal before sizes', withdraw(0, 0))
+    yield Case('a withdrawal before sizes goes before outside', withdraw(255, 255))
+    yield Case('a withdrawal after a refused size', size(0, 1, 0) + withdraw(0, 0))
+    for view, camera in [(3, 1), (2, 2), (3, 2), (255, 255)]:
+        yield Case('view %d, camera %d of 3 and 2 withdrawn' % (view, camera), held + withdraw(view, camera))
+    for view, camera in [(0, 0), (2, 0), (0, 1), (1, 1)]:
+        yield Case('view %d, camera %d withdrawn, which is empty' % (view, camera), held + withdraw(view, camera))
+    for end in (1, 2):
+        yield Case('a withdrawal\'s first %d bytes' % end, held + withdraw(2, 1)[:end])
+        yield Case('a withdrawal\'s first %d bytes go before no sizes' % end, withdraw(2, 1)[:end])
+        yield Case('a withdrawal\'s first %d bytes go before its faults' % end, held + withdraw(9, 9)[:end])
+    yield Case('a pose withdrawn', held + withdraw(2, 1))
+    yield Case('withdrawn twice', held + withdraw(2, 1) + withdraw(2, 1))
+    yield Case('a refused pose is not there to withdraw', sized + pose(2, 1, (math.nan,) * 7) + withdraw(2, 1))
+    yield Case('a withdrawn cell takes one finite pose again', held + withdraw(2, 1) + pose(2, 1, (math.nan,) * 7) + pose(2, 1, BAD) + pose(2, 1, GOOD))
+    yield Case('an unknown byte after a withdrawal', held + withdraw(2, 1) + bytes([9]) + withdraw(2, 1))
+    # Nothing but the one cell: every other is still held, by its camera and in its view.
+    cells = [(v, c) for v in range(3) for c in range(2)]
+    full = size(3, 2, 0) + b''.join(pose(v, c, numbered(v, c)) for v, c in cells)
+    for v, c in cells:
+        others = b''.join(pose(*cell, GOOD) for cell in cells if cell != (v, c))
+        yield Case('view %d, camera %d withdrawn, all others held' % (v, c), full + withdraw(v, c) + others + withdraw(v, c) + SOLVE)
+    # Records handed in, with the first and the last bits of masks.
+    every = {'views': 64, 'cameras': 16, 'masks': [2 ** 64 - 1] * 16}
+    for view, camera in [(0, 0), (63, 0), (0, 15), (63, 15), (31, 7), (32, 8)]:
+        yield Case('view %d, camera %d withdrawn of 64 and 16' % (view, camera), withdraw(view, camera) * 2, **every)
+    yield Case('every view of a camera withdrawn', b''.join(withdraw(v, 9) for v in range(64)) + SOLVE, **every)
+    yield Case('an impossible record goes before a withdrawal', withdraw(0, 0), views=1, cameras=1, masks=[3])
+    yield Case('a wrong length goes before a withdrawal', withdraw(0, 0), views=1, cameras=1, masks=[1], buffer=7169)
+    yield Case('an offset within a withdrawal', withdraw(1, 3), at=2, views=2, cameras=1, masks=[3])
+
+
+def sent_again_cases():
+    """Rigs of which poses are taken back, and most of them sent again."""
+    first = (4.0, 0.0, 0.0, 0.0, 1.0, 0.0, 0.0)
+    yield Case('the numbers sent again count', size(1, 1, 0) + pose(0, 0, first) + SOLVE + withdraw(0, 0) + pose(0, 0, GOOD) + SOLVE)
+    cells = [(v, c) for v in range(3) for c in range(3)]
+    bumped = rig_of(cells, 3, 3, 1, lambda v, c: BAD if (v, c) == (1, 2) else numbered(v, c))
+    mended = bumped + withdraw(1, 2) + SOLVE + pose(1, 2, numbered(1, 2)) + SOLVE
+    assert oracle.rig(mended).endswith(oracle.rig(rig_of(cells, 3, 3, 1, numbered)))
+    yield Case('a bumped target', mended)
+    yield Case('two poses of a view withdrawn', bumped + withdraw(1, 2) + withdraw(1, 1) + SOLVE + pose(1, 2, GOOD) + pose(1, 1, GOOD) + SOLVE)
+    # What a withdrawn cell holds decides nothing: these rigs are all the same, with the cell never held at last.
+    without = [cell for cell in cells if cell != (1, 2)]
+    never = rig_of(without, 3, 3, 1, numbered)
+    yield Case('a cell never held', never)
+    for label, numbers in [('zeros', (0.0,) * 7), ('large numbers', BAD), ('the least numbers', (5e-324,) * 7), ('a good pose', numbered(1, 2))]:
+        stream = never[:-1] + pose(1, 2, numbers) + withdraw(1, 2) + SOLVE
+        assert oracle.rig(stream) == oracle.rig(never)
+        yield Case('%s in a withdrawn cell' % label, stream)
+    # Cameras 0 to 2 and 3 to 5 hang together by view 2 alone, in which 2 and 3 saw the target.
+    halves = [(0, 0), (0, 1), (1, 1), (1, 2), (2, 2), (2, 3), (3, 3), (3, 4), (4, 4), (4, 5)]
+    joined = rig_of(halves, 5, 6, 0, numbered)
+    for camera in (2, 3):
+        yield Case('the only link withdrawn from camera %d' % camera, joined + withdraw(2, camera) + SOLVE + pose(2, camera, numbered(2, camera)) + SOLVE)
+    yield Case('the only link withdrawn from both', joined + withdraw(2, 2) + withdraw(2, 3) + SOLVE + pose(2, 3, GOOD) + SOLVE + pose(2, 2, GOOD) + SOLVE)
+    yield Case('the only link withdrawn, with the reference behind it', rig_of(halves, 5, 6, 4, numbered) + withdraw(2, 2) + SOLVE)
+    yield Case('another link of two is left', rig_of(halves + [(0, 3)], 5, 6, 0, numbered) + withdraw(2, 3) + SOLVE)
+    seen = [(0, 0), (0, 1), (1, 0), (1, 1), (2, 1)]
+    yield Case('a view\'s only pose withdrawn', rig_of(seen, 3, 2, 0, numbered) + withdraw(2, 1) + SOLVE + pose(2, 0, GOOD) + SOLVE)
+    yield Case('two views\' only poses withdrawn', rig_of(seen, 3, 2, 0, numbered) + withdraw(2, 1) + withdraw(0, 0) + withdraw(0, 1) + SOLVE)
+    yield Case('every pose withdrawn', rig_of(seen, 3, 2, 0, numbered) + b''.join(withdraw(v, c) for v, c in seen) + SOLVE)
+    yield Case('the reference\'s poses withdrawn', rig_of(seen, 3, 2, 0, numbered) + withdraw(0, 0) + withdraw(1, 0) + SOLVE)
+    # Camera 2 shares two views with camera 1 and one with camera 0: with one fewer the lowest is its parent, and with none of 0 again camera 1.
+    shared = [(0, 0), (0, 1), (0, 3), (1, 0), (1, 2), (2, 1), (2, 2), (3, 1), (3, 2)]
+    yield Case('a parent changes with a withdrawal', rig_of(shared, 4, 4, 3, numbered) + withdraw(3, 1) + SOLVE + withdraw(1, 0) + SOLVE)
+
+
 # ---- rigs
 
 def rig_of(cells, views, cameras, reference=0, numbers=lambda v, c: GOOD):
@@ -207,6 +283,21 @@ def drawn_cases():
         yield Case('a rig drawn at random, number %d' % n, rig_of(cells, views, cameras, numbers.randrange(cameras), drawn(numbers)))
 
 
+def drawn_withdrawal_cases():
+    """Full grids drawn at random, of which poses are taken back and some sent again, with Solve after each."""
+    numbers = random.Random(24)
+    for n in range(16):
+        views, cameras = numbers.randint(1, 5), numbers.randint(1, 4)
+        cells = [(v, c) for v in range(views) for c in range(cameras)]
+        stream = rig_of(cells, views, cameras, numbers.randrange(cameras), drawn(numbers))
+        for _ in range(numbers.randint(2, 8)):
+            v, c = numbers.choice(cells)
+            stream += withdraw(v, c) + SOLVE
+            if numbers.random() < 0.5:
+                stream += pose(v, c, drawn(numbers)(v, c)) + SOLVE
+        yield Case('poses taken back at random, number %d' % n, stream)
+
+
 def cases():
-    for group in (size_cases, stream_cases, record_cases, pose_cases, rig_cases, drawn_cases):
+    for group in (size_cases, stream_cases, record_cases, pose_cases, rig_cases, drawn_cases, withdraw_cases, sent_again_cases, drawn_withdrawal_cases):
         yield from group()

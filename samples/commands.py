@@ -1,4 +1,4 @@
-"""The three commands of a stream, as document 01 has their bytes."""
+"""The commands of a stream, as documents 01 and 02 have their bytes."""
 
 import struct
 
@@ -11,3 +11,7 @@ def size(views, cameras, reference):
 
 def pose(view, camera, numbers):
     return bytes([2, view, camera]) + struct.pack('<7d', *numbers)
+
+
+def withdraw(view, camera):
+    return bytes([4, view, camera])

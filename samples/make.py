@@ -14,7 +14,7 @@ import random
 
 import cases
 import oracle
-from commands import SOLVE, pose, size
+from commands import SOLVE, pose, size, withdraw
 
 HERE = os.path.dirname(os.path.abspath(__file__))
 
@@ -34,11 +34,12 @@ def turned(i, j, k):
     return (i / length, j / length, k / length, 1.0 / length)
 
 
-def five_cameras_stream():
+def five_cameras_stream(bumped=None):
     """Cameras 3 and 4 never see the target together with reference 0: their chains go over 1 and 2.
 
     Camera 3 sees it twice with camera 2 and once with camera 1, so its parent is 2. Camera 4 sees it with 1 and with 3.
-    Each pose is what the camera would measure, with a little noise in all seven numbers.
+    Each pose is what the camera would measure, with a little noise in all seven numbers. Of a cell that is named as bumped, the pose is first sent with
+    the target moved by a hand's breadth; after a Solve it is withdrawn and sent as it should be.
     """
     noise = random.Random(2026)
     rig_se3_cam = [
@@ -52,12 +53,24 @@ def five_cameras_stream():
         (0.1 * v - 0.25, 0.05 * (v % 3), 1.0 + 0.1 * v) + turned(0.2 - 0.05 * v, 0.1 * v, 0.03) for v in range(6)
     ]
     seen = [(0, 1, 2), (0, 1), (0, 2), (1, 3, 4), (2, 3), (2, 3, 4)]
-    stream = size(6, 5, 0)
+    stream, again = size(6, 5, 0), b''
     for v, cameras in enumerate(seen):
         for c in cameras:
             measured = oracle.product(oracle.inverse(rig_se3_cam[c]), rig_se3_target[v])
-            stream += pose(v, c, [a + noise.uniform(-1e-4, 1e-4) for a in measured])
-    return stream + SOLVE
+            noisy = [a + noise.uniform(-1e-4, 1e-4) for a in measured]
+            if (v, c) == bumped:
+                again = SOLVE + withdraw(v, c) + pose(v, c, noisy)
+                noisy = oracle.product((0.0, 0.1, 0.0) + turned(0.0, 0.0, 0.1), noisy)
+            stream += pose(v, c, noisy)
+    return stream + again + SOLVE
+
+
+# ---- the same, with the target bumped when camera 3 saw it in view 4: in the end the rig is that of five cameras, bit for bit
+
+def bumped_stream():
+    stream = five_cameras_stream(bumped=(4, 3))
+    assert oracle.rig(stream).endswith(oracle.rig(five_cameras_stream()))
+    return stream
 
 
 # ---- a stream in which every second command is refused
@@ -74,17 +87,18 @@ def refused_stream():
         + pose(0, 0, good)          # 23
         + pose(2, 0, good)          # 12
         + pose(1, 1, bad)           # 7
+        + withdraw(1, 1)            # 24
         + SOLVE                     # 8: camera 0 shares no view with reference 1
         + pose(0, 1, good)
         + SOLVE                     # 9: view 1 is empty
         + pose(1, 0, good)
         + SOLVE
-        + bytes([4])                # 10
+        + bytes([9])                # 10
         + SOLVE                     # not read any more
     )
 
 
-# ---- the program's own test: document 01's listing, then refusals that go on, the listing again, and one that ends the stream
+# ---- the program's own test: document 01's listing, then refusals that go on, its pose taken back, the listing again, and one that ends the stream
 
 def program_stream():
     seen = (1.0, 0.0, 0.0, 0.0, 0.0, 0.0, 1.0)
@@ -93,6 +107,11 @@ def program_stream():
         + size(1, 1, 0)             # 22
         + pose(0, 0, seen)          # 23
         + pose(1, 0, seen)          # 12
+        + SOLVE
+        + withdraw(0, 0)
+        + withdraw(0, 0)            # 24
+        + SOLVE                     # 9
+        + pose(0, 0, seen)
         + SOLVE
         + bytes([9])                # 10
         + SOLVE                     # not read any more
@@ -107,7 +126,7 @@ def write(path, data):
 
 
 def main():
-    streams = {'listing': listing_stream(), 'five_cameras': five_cameras_stream(), 'refused': refused_stream()}
+    streams = {'listing': listing_stream(), 'five_cameras': five_cameras_stream(), 'bumped': bumped_stream(), 'refused': refused_stream()}
     for name, stream in streams.items():
         write(name + '.stream', stream)
         write(name + '.listing', oracle.rig(stream).encode())

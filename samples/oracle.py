@@ -1,4 +1,4 @@
-"""Document 01 read once more, in Python: the session, the estimate and the lines that `rig` prints.
+"""Documents 01 and 02 read once more, in Python: the session, the estimate and the lines that `rig` prints.
 
 It shares nothing with the Rattle code. Python's floats are IEEE doubles and `math.sqrt` is the nearest root, so the
 printed bits can be compared digit by digit. `make.py` uses it to say what the samples and tests must print.
@@ -169,7 +169,7 @@ class Session:
             return (11, end), end
         if at == end:
             return 'end', end
-        width = {1: 4, 2: 59, 3: 1}.get(stream[at])
+        width = {1: 4, 2: 59, 3: 1, 4: 3}.get(stream[at])
         if width is None:
             return (10, stream[at]), end
         if at + width > end:
@@ -196,6 +196,15 @@ class Session:
                 return (7, view * self.cameras + camera)
             self.masks[camera] |= 1 << view
             self.cells[view, camera] = pose
+            return 'accepted'
+        if command[0] == 4:
+            view, camera = command[1:3]
+            if view >= self.views or camera >= self.cameras:
+                return (12, view * 256 + camera)
+            if not self.masks[camera] >> view & 1:
+                return (24, view * 256 + camera)
+            # The seven numbers stay where they are: without its bit nothing looks at the cell.
+            self.masks[camera] &= ~(1 << view)
             return 'accepted'
         refusal, solved = estimate(self.grid(), self.reference)
         return refusal or solved

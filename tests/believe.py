@@ -15,7 +15,7 @@ import sys
 
 CRATES = pathlib.Path(__file__).resolve().parent.parent / "crates"
 
-# What a reader of document 01 holds in the other hand: the statement, where it stands, and the definitions that say it.
+# What a reader of documents 01 and 02 holds in the other hand: the statement, where it stands, and the definitions that say it.
 STATEMENTS = [
     ("demand 1, direct call", "claims_direct.Demand1", "Demand1"),
     ("demand 2, the Rust on its own terms", "claims_direct.Encoding", "Encodes WithinLimits RoomWhereSized CallAgrees"),
@@ -24,7 +24,10 @@ STATEMENTS = [
     ("demand 1, one call of a session", "claims_streams.CallDemand1", "CallDemand1"),
     ("what whole streams answer", "claims_streams.Stream", "meaning calls"),
     ("Solve in a stream, as demanded", "claims_streams.SolveDemands", "AsDemanded"),
-    ("what a session holds", "claims_streams.Held", "HoldsExactly acceptedEdits"),
+    ("what a session holds", "claims_streams.Held", "HoldsExactly acceptedEdits LastIsPose"),
+    ("what floats of empty cells can change", "claims_streams.Alike", "EachAlike AnswersAlike"),
+    ("the same, of the whole-stream entry", "claims_printing.Printed", "PartsAlike"),
+    ("a pose taken back", "claims_streams.TakenBack", "PoseThenWithdrawal TakenBack"),
     ("what is printed", "claims_printing.Printed", "wholeOf freshState"),
     ("the averaging entry", "claims_exports.Averages", "AverageDemand1"),
     ("the root", "root.Root", "IsRootOf"),

@@ -236,7 +236,7 @@ static void estimates(void) {
 
 /* ---- sessions */
 
-enum { SIZE_BYTES = 4, POSE_BYTES = 3 + 8 * PLACER_POSE_FLOATS };
+enum { SIZE_BYTES = 4, POSE_BYTES = 3 + 8 * PLACER_POSE_FLOATS, WITHDRAW_BYTES = 3 };
 
 static struct {
     _Alignas(PAGE) uint64_t record[PLACER_RECORD_WORDS + 1];
@@ -304,9 +304,37 @@ static void solve(void) {
     lent.stream_length = 1;
 }
 
+static void withdraw(uint8_t view, uint8_t camera) {
+    memcpy(lent.stream, (uint8_t[]){0x04, view, camera}, WITHDRAW_BYTES);
+    lent.stream_length = WITHDRAW_BYTES;
+}
+
 static void not_sized(const char *what, uint8_t views, uint8_t cameras, uint8_t reference, enum placer_refusal number) {
     size(views, cameras, reference);
     not_obeyed(what, 0, number, 0, SIZE_BYTES);
+}
+
+/* A Pose and its withdrawal as the next command leave the record as it was before the two, word for word. The withdrawal writes no float: the buffer is in
+ * read-only pages, and keeps every bit. What stands in the cell no longer matters, and is a NaN from then on. */
+static void taken_back(uint8_t view, uint8_t camera) {
+    static const double first[PLACER_POSE_FLOATS] = {8, 9, 10, 0, 1, 0, 0};
+    static double buffer[PLACER_BUFFER_FLOATS];
+    uint64_t record[PLACER_RECORD_WORDS + 1];
+    double *const cell = lent.buffer + PLACER_POSE_FLOATS * (view * PLACER_MAX_CAMERAS + camera);
+    memcpy(record, lent.record, sizeof record);
+    pose(view, camera, first);
+    obeyed("a Pose to take back", 0, PLACER_ACCEPTED, POSE_BYTES, RECORD | BUFFER);
+    hold("a Pose to take back is held", lent.record[camera] == (record[camera] | 1 << view) && memcmp(cell, first, sizeof first) == 0);
+    memcpy(buffer, lent.buffer, sizeof buffer);
+    /* Between two bytes that are commands too. */
+    memcpy(lent.stream, (uint8_t[]){0x03, 0x04, view, camera, 0x03}, 2 + WITHDRAW_BYTES);
+    lent.stream_length = 2 + WITHDRAW_BYTES;
+    obeyed("Withdraw", 1, PLACER_ACCEPTED, 1 + WITHDRAW_BYTES, RECORD);
+    hold("the record before the two", memcmp(lent.record, record, sizeof record) == 0);
+    hold("Withdraw writes no float", memcmp(lent.buffer, buffer, sizeof buffer) == 0);
+    withdraw(view, camera);
+    not_obeyed("Withdraw again", 0, PLACER_NOT_HELD, view * 256 + camera, WITHDRAW_BYTES);
+    cell[3] = NAN;
 }
 
 static void sessions(void) {
@@ -340,20 +368,27 @@ static void sessions(void) {
     /* 11 past the end, 10 and 11 within; 0 at the end. */
     memset(lent.stream, 0, sizeof lent.stream);
     lent.stream_length = 3 + SIZE_BYTES - 1;
-    memcpy(lent.stream, (uint8_t[]){0x00, 0x04, 0xff, 0x01, 1, 1}, 6);
+    memcpy(lent.stream, (uint8_t[]){0x00, 0x09, 0xff, 0x01, 1, 1}, 6);
     not_obeyed("an offset past the end", 7, PLACER_TRUNCATED, 6, 6);
     obeyed("the end", 6, PLACER_END, 6, NOTHING);
     not_obeyed("byte 0", 0, PLACER_UNKNOWN_COMMAND, 0x00, 6);
-    not_obeyed("byte 4", 1, PLACER_UNKNOWN_COMMAND, 0x04, 6);
+    not_obeyed("byte 9", 1, PLACER_UNKNOWN_COMMAND, 0x09, 6);
     not_obeyed("byte 255", 2, PLACER_UNKNOWN_COMMAND, 0xff, 6);
     not_obeyed("Size cut off", 3, PLACER_TRUNCATED, 3, 6);
     pose(VIEWS, CAMERAS, spoilt);
     lent.stream_length = POSE_BYTES - 1;
     not_obeyed("Pose cut off before a Size", 0, PLACER_TRUNCATED, 0, POSE_BYTES - 1);
+    withdraw(VIEWS, CAMERAS);
+    lent.stream_length = WITHDRAW_BYTES - 1;
+    not_obeyed("Withdraw cut off before a Size", 0, PLACER_TRUNCATED, 0, WITHDRAW_BYTES - 1);
+    lent.stream_length = 1;
+    not_obeyed("Withdraw of one byte", 0, PLACER_TRUNCATED, 0, 1);
 
     /* 21, and Size: 1, 2, 1, 2, 3; then 22. */
-    lent.stream_length = POSE_BYTES;
+    pose(VIEWS, CAMERAS, spoilt);
     not_obeyed("Pose before Size", 0, PLACER_NO_SIZE, 0, POSE_BYTES);
+    withdraw(VIEWS, CAMERAS);
+    not_obeyed("Withdraw before Size", 0, PLACER_NO_SIZE, 0, WITHDRAW_BYTES);
     solve();
     not_obeyed("Solve before Size", 0, PLACER_NO_SIZE, 0, 1);
     not_sized("no views", 0, 0, 0, PLACER_INSUFFICIENT_DATA);
@@ -386,6 +421,19 @@ static void sessions(void) {
     pose(2, 1, spoilt);
     not_obeyed("Pose again, with a NaN", 0, PLACER_HELD_ALREADY, 2 * 256 + 1, POSE_BYTES);
 
+    /* Withdraw: 12, though nothing is held there either, and 24. */
+    withdraw(VIEWS, 1);
+    not_obeyed("Withdraw of view 3 of 3", 0, PLACER_OUTSIDE_RIG, VIEWS * 256 + 1, WITHDRAW_BYTES);
+    withdraw(1, CAMERAS);
+    not_obeyed("Withdraw of camera 2 of 2", 0, PLACER_OUTSIDE_RIG, 1 * 256 + CAMERAS, WITHDRAW_BYTES);
+    withdraw(2, 0);
+    not_obeyed("Withdraw of a cell beside the held one", 0, PLACER_NOT_HELD, 2 * 256 + 0, WITHDRAW_BYTES);
+    withdraw(1, 1);
+    not_obeyed("Withdraw of a view before the held one", 0, PLACER_NOT_HELD, 1 * 256 + 1, WITHDRAW_BYTES);
+    /* A cell that is sent again below, and one that is not. */
+    taken_back(0, 0);
+    taken_back(1, 0);
+
     /* Solve: 7 for what was spoilt since, 8, 9 for the lowest empty view, and solved at an offset in a longer stream. */
     lent.buffer[cell_5] = INFINITY;
     solve();
@@ -409,6 +457,23 @@ static void sessions(void) {
     hold("the session's chains", memcmp(lent.second + 1, rig_second, sizeof rig_second) == 0);
     hold("memory around a session's rig", lent.first[0] == GUARD && all_doubles(lent.first + 1 + FIRST, PLACER_FIRST_FLOATS + 1 - FIRST, GUARD) && lent.second[0] == GUARD_BYTE && all_bytes(lent.second + 1 + SECOND, PLACER_SECOND_BYTES + 1 - SECOND, GUARD_BYTE));
     hold("a Solve changes no record and no buffer", memcmp(lent.record, before.record, sizeof lent.record) == 0 && memcmp(lent.buffer, before.buffer, sizeof lent.buffer) == 0);
+    /* One of a view's two poses taken back, and a view's only one; both sent again: the same rig. */
+    withdraw(2, 0);
+    obeyed("Withdraw of one of two poses", 0, PLACER_ACCEPTED, WITHDRAW_BYTES, RECORD);
+    hold("the masks without it", lent.record[0] == 1 << 0 && lent.record[1] == (1 << 0 | 1 << 1 | 1 << 2));
+    pose(2, 0, rig_floats + 4 * PLACER_POSE_FLOATS);
+    obeyed("one of two poses sent again", 0, PLACER_ACCEPTED, POSE_BYTES, RECORD | BUFFER);
+    withdraw(1, 1);
+    obeyed("Withdraw of a view's only pose", 0, PLACER_ACCEPTED, WITHDRAW_BYTES, RECORD);
+    hold("the masks without it", lent.record[0] == (1 << 0 | 1 << 2) && lent.record[1] == (1 << 0 | 1 << 2));
+    solve();
+    not_obeyed("view 1 empty", 0, PLACER_EMPTY_VIEW, 1, 1);
+    pose(1, 1, rig_floats + 3 * PLACER_POSE_FLOATS);
+    obeyed("Pose sent again", 0, PLACER_ACCEPTED, POSE_BYTES, RECORD | BUFFER);
+    guard(lent.first, PLACER_FIRST_FLOATS + 2);
+    solve();
+    obeyed("Solve again", 0, PLACER_SOLVED, 1, ANSWERS);
+    hold("the same rig", memcmp(lent.first + 1, rig_first, sizeof rig_first) == 0 && memcmp(lent.second + 1, rig_second, sizeof rig_second) == 0);
     lent.next = 1;
     refuses("nothing at all", CALL(placer_step, .next = &lent.next), PLACER_WRONG_LENGTH, 0);
     hold("the end of nothing", lent.next == 0);

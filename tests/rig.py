@@ -1,8 +1,8 @@
 """Runs the program on streams whose answers samples/oracle.py knows, over inputs and outputs of all kinds:  python3 -B tests/rig.py RIG
 
-Streams drawn at random, over every count of views and of cameras; the largest rig, solved as often as a stream allows; inputs that come in pieces, late,
-are too long, or fail; outputs that are slow, take a part, fail at once or later, or that nobody reads. What goes wrong is told on standard error: the exit
-status is 0 unless a signal ends the program.
+Streams drawn at random, over every count of views and of cameras, with poses taken back among them; others with poses more that are taken back at
+once; the largest rig, solved as often as a stream allows; inputs that come in pieces, late, are too long, or fail; outputs that are slow, take a part,
+fail at once or later, or that nobody reads. What goes wrong is told on standard error: the exit status is 0 unless a signal ends the program.
 """
 
 import math
@@ -21,11 +21,12 @@ HERE = os.path.dirname(os.path.abspath(__file__))
 sys.path.insert(0, os.path.join(HERE, '..', 'samples'))
 
 import oracle
-from commands import SOLVE, pose, size
+from commands import SOLVE, pose, size, withdraw
 
 RIG = os.path.abspath(sys.argv[1])
 DRAWN = 400
 SPARSE = 640
+TAKEN_BACK = 200
 PAUSE = 0.05
 
 
@@ -49,15 +50,25 @@ def drawn_pose(numbers, view, camera):
     return pose(view, camera, values)
 
 
+def drawn_withdrawal(numbers, sent, views, cameras):
+    """Mostly of a cell that was sent, at times of any in the rig, and rarely of one outside; half of the poses are sent again at once."""
+    if numbers.random() < 0.1:
+        return withdraw(numbers.randrange(256), numbers.randrange(256))
+    v, c = numbers.choice(sent) if numbers.random() < 0.8 else (numbers.randrange(views), numbers.randrange(cameras))
+    return withdraw(v, c) + (drawn_pose(numbers, v, c) if numbers.random() < 0.5 else b'')
+
+
 def drawn_stream(numbers):
-    """A rig with many of its poses, some of them refused, solved now and then, and sometimes cut or damaged."""
+    """A rig with many of its poses, some of them refused or taken back, solved now and then, and sometimes cut or damaged."""
     views, cameras = (64, 16) if numbers.random() < 0.03 else (numbers.randint(1, 9), numbers.randint(1, 6))
     cells = [(v, c) for v in range(views) for c in range(cameras) if numbers.random() < 0.7]
     numbers.shuffle(cells)
     stream = SOLVE if numbers.random() < 0.1 else b''
     stream += size(views, cameras, numbers.randrange(cameras + (numbers.random() < 0.05)))
-    for v, c in cells:
+    for n, (v, c) in enumerate(cells):
         stream += drawn_pose(numbers, v, c)
+        if numbers.random() < 0.1:
+            stream += drawn_withdrawal(numbers, cells[:n + 1], views, cameras)
         if numbers.random() < 0.05:
             stream += drawn_pose(numbers, numbers.randrange(256), numbers.randrange(256))
         if numbers.random() < 0.02:
@@ -65,6 +76,8 @@ def drawn_stream(numbers):
         if views < 64 and numbers.random() < 0.05:
             stream += SOLVE
     stream += SOLVE * numbers.randint(0, 4)
+    if cells and numbers.random() < 0.5:
+        stream += drawn_withdrawal(numbers, cells, views, cameras) + SOLVE
     if numbers.random() < 0.1:
         stream = stream[:numbers.randrange(len(stream) + 1)]
     if numbers.random() < 0.1:
@@ -74,7 +87,8 @@ def drawn_stream(numbers):
 
 
 def sparse_stream(numbers, views, cameras):
-    """Cameras that hang together by one view each, and a pose in every view: most can be solved, some lack a pose."""
+    """Cameras that hang together by one view each, and a pose in every view: most can be solved, some lack a pose, and of some one is taken back and sent
+    again, with Solve after each."""
     order = numbers.sample(range(cameras), cameras)
     cells = set()
     for n in range(1, cameras):
@@ -88,7 +102,11 @@ def sparse_stream(numbers, views, cameras):
     if numbers.random() < 0.2:
         cells.pop()
     stream = size(views, cameras, numbers.randrange(cameras)) + b''.join(drawn_pose(numbers, v, c) for v, c in cells)
-    return stream + SOLVE * numbers.randint(1, 3)
+    stream += SOLVE * numbers.randint(1, 3)
+    if cells and numbers.random() < 0.5:
+        v, c = numbers.choice(cells)
+        stream += withdraw(v, c) + SOLVE + drawn_pose(numbers, v, c) + SOLVE
+    return stream
 
 
 def check_sparse():
@@ -105,6 +123,38 @@ def check_drawn():
     for n in range(DRAWN):
         stream = drawn_stream(numbers)
         run('stream %d drawn at random' % n, oracle.rig(stream).encode(), input=stream)
+
+
+# ---- poses taken back as the next command
+
+def with_more(numbers, stream):
+    """The stream with poses of empty cells put between its commands, each withdrawn by the next command; and how many."""
+    session, at, text, more = oracle.Session(), 0, b'', 0
+    while at < len(stream):
+        empty = [(v, c) for c in range(session.cameras) for v in range(session.views) if not session.masks[c] >> v & 1]
+        if empty and numbers.random() < 0.3:
+            v, c = numbers.choice(empty)
+            text += pose(v, c, [numbers.choice([-1.0, 1.0]) * 10.0 ** numbers.randint(-300, 300) for _ in range(7)]) + withdraw(v, c)
+            more += 1
+        before = at
+        _, at = session.call(stream, at)
+        text += stream[before:at]
+    return text, more
+
+
+def check_taken_back():
+    """What such streams print is what they print without those poses: nothing of them is left."""
+    numbers = random.Random(204)
+    taken_back = 0
+    for n in range(TAKEN_BACK):
+        views, cameras = numbers.randint(1, 9), numbers.randint(1, 6)
+        stream = sparse_stream(numbers, views, cameras) if n % 2 else size(views, cameras, 0) + b''.join(drawn_pose(numbers, v, c) + SOLVE for v in range(views) for c in range(cameras))
+        longer, more = with_more(numbers, stream)
+        run('stream %d with %d poses taken back' % (n, more), oracle.rig(stream).encode(), input=longer)
+        taken_back += more
+    if taken_back < TAKEN_BACK:
+        sys.exit('rig: %d poses taken back, which is too few' % taken_back)
+    return taken_back
 
 
 # ---- the largest rig
@@ -251,7 +301,8 @@ def main():
     solves, bytes_printed = check_largest(start, listing)
     check_sparse()
     check_drawn()
-    print('rig: %d Solves of 64 views and 16 cameras (%d bytes), %d drawn streams, inputs and outputs of all kinds, as expected' % (solves, bytes_printed, DRAWN + SPARSE))
+    taken_back = check_taken_back()
+    print('rig: %d Solves of 64 views and 16 cameras (%d bytes), %d drawn streams, %d poses taken back at once, inputs and outputs of all kinds, as expected' % (solves, bytes_printed, DRAWN + SPARSE, taken_back))
 
 
 main()

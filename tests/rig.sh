@@ -1,7 +1,7 @@
 #!/bin/sh
 # Runs the program: on the bundled samples, against their listings; on 65,536 bytes and on one more; where there is a C compiler, on a stream of
-# the corpus against the example in C; and by rig.py on drawn streams, the largest rig, and inputs and outputs that are slow or fail: rig.sh.
-# Needs rt and python3.
+# the corpus against the example in C, which is run on the sample with a pose taken back too; and by rig.py on drawn streams, the largest rig, and
+# inputs and outputs that are slow or fail: rig.sh. Needs rt and python3.
 set -eu
 root=$(cd "$(dirname "$0")/.." && pwd)
 cd "$root"
@@ -12,7 +12,7 @@ fi
 work=$(mktemp -d)
 trap 'rm -rf "$work"' EXIT
 
-for name in listing five_cameras refused; do
+for name in listing five_cameras bumped refused; do
   target/bin/rig <samples/$name.stream | cmp - samples/$name.listing || { echo "rig: samples/$name.stream prints something else" >&2; exit 1; }
 done
 
@@ -31,6 +31,7 @@ and=' (the example in C skipped: no C compiler is at hand)'
 if command -v "${CC:-cc}" >/dev/null 2>&1; then
   sh examples/c/run.sh >"$work/example"
   target/bin/rig <tests/corpus/line-of-four.stream | cmp - "$work/example" || { echo "rig: the example in C prints something else" >&2; exit 1; }
+  sh examples/c/run.sh samples/bumped.stream | cmp - samples/bumped.listing || { echo "rig: the example in C prints something else for a pose taken back" >&2; exit 1; }
   and=' and the example in C'
 fi
 echo "rig: the samples, the stream's limit$and, as expected"

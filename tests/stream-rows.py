@@ -1,6 +1,6 @@
 #!/usr/bin/env python3
 """Runs the rows of crates/claims_rows/specs/Rows.antt: each row's stream through the program, and each row and call through the reading of
-document 01 in samples/oracle.py, against the text that the row says. Rows from other states than a fresh session cannot be run through the
+the papers in samples/oracle.py, against the text that the row says. Rows from other states than a fresh session cannot be run through the
 program, which always begins with one. Needs target/bin/rig, which `rt check rig` makes.
 """
 

@@ -200,6 +200,17 @@ fn read_plainly(stream: &[u8], mut tell: impl FnMut(Told)) {
                 }
                 at += 59;
             }
+            [4, v, c, ..] => {
+                let (v, c) = (*v as usize, *c as usize);
+                let sized = !views.is_empty();
+                match views.get_mut(v).and_then(|view| view.get_mut(c)) {
+                    _ if !sized => tell(Told::Refused(21, 0)),
+                    None => tell(Told::Refused(12, 256 * v + c)),
+                    Some(None) => tell(Told::Refused(24, 256 * v + c)),
+                    Some(held) => *held = None,
+                }
+                at += 3;
+            }
             [3, ..] if views.is_empty() => {
                 tell(Told::Refused(21, 0));
                 at += 1;
@@ -209,7 +220,7 @@ fn read_plainly(stream: &[u8], mut tell: impl FnMut(Told)) {
                 tell(Told::Solved(&solved.expect("a grid that is solved")));
                 at += 1;
             }
-            [1 | 2, ..] => return tell(Told::Refused(11, at)),
+            [1 | 2 | 4, ..] => return tell(Told::Refused(11, at)),
             [other, ..] => return tell(Told::Refused(10, *other as usize)),
             [] => return,
         }

@@ -80,7 +80,7 @@ pub type Pose = [f64; POSE_FLOATS];
 /// Why a call was refused: a number of the table of refusals, and what it names, 0 if nothing.
 #[derive(Debug, Clone, Copy, PartialEq, Eq)]
 pub struct Refusal {
-    /// 1 to 13 for the input, 21 to 23 for the state of a session.
+    /// 1 to 13 for the input, 21 to 24 for the state of a session.
     pub number: u32,
     /// The lowest view, cell or pose at fault, or a set of cameras, as the number says.
     pub detail: u32,
@@ -116,6 +116,7 @@ impl fmt::Display for Refusal {
             21 => write!(f, "no Size was accepted yet"),
             22 => write!(f, "a Size was accepted already"),
             23 => write!(f, "view {}, camera {} is held already", detail >> 8, detail & 0xff),
+            24 => write!(f, "view {}, camera {} holds no pose", detail >> 8, detail & 0xff),
             number => write!(f, "refusal {number}, detail {detail}"),
         }
     }
@@ -224,7 +225,7 @@ impl Rig {
 pub enum Accepted {
     /// The offset is the stream's length.
     End,
-    /// Size or Pose was obeyed.
+    /// Size, Pose or Withdraw was obeyed.
     Held,
     /// Solve was obeyed: [`Session::rig`] has the rig.
     Solved,
@@ -249,7 +250,8 @@ pub struct Fed {
     pub next: usize,
 }
 
-/// A session: poses arrive as commands in a stream of bytes, and Solve answers as the direct call would.
+/// A session: poses arrive as commands in a stream of bytes, and Solve answers as the direct call would. A bad pose is taken back by Withdraw (0x04, view,
+/// camera), and its cell is then free for another.
 #[derive(Debug, Clone)]
 pub struct Session {
     record: [u64; RECORD_WORDS],
@@ -337,7 +339,7 @@ impl Session {
         fed
     }
 
-    /// The rig that was solved last.
+    /// The rig that was solved last, whatever was sent or withdrawn since.
     pub fn rig(&self) -> Option<Rig> {
         let [.., views, cameras, _] = self.record;
         self.solved.then(|| Rig::from_answers(cameras as usize, views as usize, &self.transforms, &self.chains))
@@ -349,7 +351,8 @@ impl Session {
         &self.record
     }
 
-    /// The poses that are held, a cell's seven doubles from 7 * (view * [`MAX_CAMERAS`] + camera).
+    /// The poses that are held, a cell's seven doubles from 7 * (view * [`MAX_CAMERAS`] + camera). A cell that was withdrawn keeps its numbers here, and they
+    /// count for nothing: the record says which cells are held.
     pub fn buffer(&self) -> &[f64] {
         &self.buffer
     }

@@ -210,6 +210,10 @@ fn place(view: u8, camera: u8, pose: Pose) -> Vec<u8> {
 
 const SOLVE: [u8; 1] = [3];
 
+fn withdraw(view: u8, camera: u8) -> Vec<u8> {
+    vec![4, view, camera]
+}
+
 struct Lent {
     record: Vec<u64>,
     buffer: Vec<f64>,
@@ -301,16 +305,21 @@ fn step_refuses() {
         Lent::fresh().with(spoil).refuses(&SOLVE, 0, 5, 0, 1);
         Lent::fresh().with(spoil).refuses(&SOLVE, 9, 5, 0, 1);
     }
-    for byte in [0, 4, 255] {
+    for byte in [0, 9, 255] {
         sized().refuses(&[byte, 3], 0, 10, byte as u64, 2);
     }
     let pose = place(1, 1, STANDING);
     for length in 1..pose.len() {
         sized().refuses(&[&[3, 3], &pose[..length]].concat(), 2, 11, 2, 2 + length);
     }
+    for length in 1..3 {
+        sized().refuses(&[&[3, 3], &withdraw(9, 9)[..length]].concat(), 2, 11, 2, 2 + length);
+        Lent::fresh().refuses(&withdraw(0, 0)[..length], 0, 11, 0, length);
+    }
     sized().refuses(&SOLVE, 2, 11, 1, 1);
     Lent::fresh().refuses(&pose, 0, 21, 0, 59);
     Lent::fresh().refuses(&SOLVE, 0, 21, 0, 1);
+    Lent::fresh().refuses(&withdraw(255, 255), 0, 21, 0, 3);
     sized().refuses(&size(1, 1, 0), 0, 22, 0, 4);
     for (views, cameras, reference, number) in [(0, 0, 0, 1), (65, 0, 0, 2), (1, 0, 0, 1), (1, 17, 0, 2), (64, 16, 16, 3)] {
         Lent::fresh().refuses(&size(views, cameras, reference), 0, number, 0, 4);
@@ -323,6 +332,14 @@ fn step_refuses() {
         bad[at] = f64::INFINITY;
         sized().refuses(&place(1, 0, bad), 0, 7, 2, 59);
     }
+    // Withdraw: 12, though nothing is held there either, then 24.
+    for (view, camera) in [(2, 0), (0, 2), (2, 2), (255, 255)] {
+        sized().refuses(&withdraw(view, camera), 0, 12, view as u64 * 256 + camera as u64, 3);
+    }
+    for (view, camera) in [(0, 0), (0, 1), (1, 0)] {
+        sized().after(&[pose.clone()]).refuses(&withdraw(view, camera), 0, 24, view as u64 * 256 + camera as u64, 3);
+    }
+    sized().after(&[pose.clone(), withdraw(1, 1)]).refuses(&withdraw(1, 1), 0, 24, 257, 3);
     // Solve: 7 for what was spoilt since, 8, and 9.
     sized().after(&[pose.clone()]).with(|l| l.buffer[7 * 17] = f64::NAN).refuses(&SOLVE, 0, 7, 3, 1);
     sized().after(&[pose.clone(), place(0, 0, STANDING)]).refuses(&SOLVE, 0, 8, 2, 1);
@@ -346,17 +363,73 @@ fn step_obeys() {
 }
 
 #[test]
+fn poses_are_taken_back() {
+    let bits = |lent: &Lent| lent.buffer.iter().map(|x| x.to_bits()).collect::<Vec<_>>();
+    // A Pose and its withdrawal as the next command: the record as it was, word for word, at the first and the last bits of masks. The withdrawal changes
+    // nothing else, and no float at all.
+    for (view, camera) in [(0, 0), (63, 0), (0, 15), (63, 15), (31, 7), (32, 8)] {
+        let mut lent = Lent::fresh().after(&[size(64, 16, 3), place(5, camera, STANDING), place(view, 5, STANDING)]);
+        let record = lent.record.clone();
+        lent = lent.after(&[place(view, camera, [f64::MAX; POSE_FLOATS])]);
+        assert_eq!(lent.record[camera as usize], record[camera as usize] | 1 << view);
+        let held = lent.words();
+        assert_eq!(lent.step(&withdraw(view, camera), 0), (1, 3));
+        assert_eq!(lent.record, record, "view {view}, camera {camera}");
+        assert!(held[RECORD_WORDS..] == lent.words()[RECORD_WORDS..], "a withdrawal wrote something but the record");
+        lent.refuses(&withdraw(view, camera), 0, 24, view as u64 * 256 + camera as u64, 3);
+    }
+    // Every cell of a full rig, with all others held: one bit of one mask.
+    let cells: Vec<(u8, u8)> = (0..3).flat_map(|view| (0..2).map(move |camera| (view, camera))).collect();
+    let full = |numbers: &dyn Fn(u8, u8) -> Pose| {
+        let poses = cells.iter().map(|&(view, camera)| place(view, camera, numbers(view, camera)));
+        Lent::fresh().after(&[vec![size(3, 2, 1)], poses.collect()].concat())
+    };
+    for &(view, camera) in &cells {
+        let mut lent = full(&|_, _| STANDING);
+        let (record, buffer) = (lent.record.clone(), bits(&lent));
+        lent = lent.after(&[withdraw(view, camera)]);
+        let changed: Vec<_> = (0..RECORD_WORDS).filter(|&n| lent.record[n] != record[n]).collect();
+        assert_eq!((changed, lent.record[camera as usize]), (vec![camera as usize], record[camera as usize] ^ 1 << view));
+        assert!(buffer == bits(&lent));
+    }
+    // A bumped target: taken back and sent again, the rig is the one of a stream that never had it. Until then its cell's numbers, spoilt here, are ignored.
+    let seen = |view: u8, camera: u8| [(view * view * (camera + 1)) as f64, camera as f64, 1.0, 0.0, 0.0, 0.0, 1.0];
+    let bumped = |view: u8, camera: u8| if (view, camera) == (1, 0) { [1e9; POSE_FLOATS] } else { seen(view, camera) };
+    let solved = |lent: &mut Lent| {
+        assert_eq!(lent.step(&SOLVE, 0), (2, 1));
+        lent.transforms.iter().map(|x| x.to_bits()).chain(lent.chains.iter().map(|&x| x as u64)).collect::<Vec<_>>()
+    };
+    let good = solved(&mut full(&seen));
+    let mut lent = full(&bumped);
+    assert!(solved(&mut lent) != good);
+    lent = lent.after(&[withdraw(1, 0)]).with(|l| l.buffer[7 * 16..7 * 17].fill(f64::NAN));
+    assert!(solved(&mut lent) != good);
+    lent = lent.after(&[place(1, 0, seen(1, 0))]);
+    assert!(solved(&mut lent) == good, "the rig with a pose sent again");
+    // The only link taken back: 8 with the far camera, the answers kept; and solved with it sent again.
+    let mut session = Session::new();
+    let stream = [size(2, 2, 0), place(0, 0, STANDING), place(1, 0, STANDING), place(1, 1, STANDING), SOLVE.to_vec(), withdraw(1, 1), SOLVE.to_vec()].concat();
+    let answers = session.feed(&stream);
+    assert_eq!(answers[4..], [Ok(Accepted::Solved), Ok(Accepted::Held), Err(Refusal { number: 8, detail: 2 })]);
+    let rig = session.rig();
+    assert!(rig.is_some());
+    assert_eq!(session.feed(&[place(1, 1, STANDING), SOLVE.to_vec()].concat()), [Ok(Accepted::Held), Ok(Accepted::Solved)]);
+    assert_eq!(session.rig(), rig);
+}
+
+#[test]
 fn streams_in_pieces() {
-    let commands = [size(1, 1, 0), place(0, 0, STANDING), SOLVE.to_vec()];
+    let commands = [size(1, 1, 0), place(0, 0, STANDING), withdraw(0, 0), place(0, 0, STANDING), SOLVE.to_vec()];
     let stream = commands.concat();
     let cut_off = |at: usize| Err(Refusal { number: 11, detail: at as u32 });
-    let obeyed = [Ok(Accepted::Held), Ok(Accepted::Held), Ok(Accepted::Solved)];
+    let obeyed = [Ok(Accepted::Held), Ok(Accepted::Held), Ok(Accepted::Held), Ok(Accepted::Held), Ok(Accepted::Solved)];
+    let ends = [0, 4, 63, 66, 125, 126];
     // Every two pieces: a command that is cut off is told by 11, and obeyed at the same offset once the stream is longer.
     for cut in 0..=stream.len() {
         let mut session = Session::new();
         let first = session.feed_from(&stream[..cut], 0);
-        let whole = [4, 63, 64].iter().filter(|&&end| end <= cut).count();
-        let last = [0, 4, 63, 64][whole];
+        let whole = ends[1..].iter().filter(|&&end| end <= cut).count();
+        let last = ends[whole];
         assert_eq!(first.next, last, "cut at {cut}");
         assert_eq!(first.answers[..whole], obeyed[..whole]);
         assert_eq!(first.answers[whole..], vec![cut_off(last); (last != cut) as usize]);
@@ -374,7 +447,7 @@ fn streams_in_pieces() {
     }
     assert_eq!((next, session.rig().map(|rig| rig.rig_se3_target)), (stream.len(), Some(vec![STANDING])));
     // Past the end, and after a refusal that ends the stream.
-    assert_eq!(session.feed_from(&stream, 70), Fed { answers: vec![cut_off(stream.len())], next: 70 });
+    assert_eq!(session.feed_from(&stream, 130), Fed { answers: vec![cut_off(stream.len())], next: 130 });
     assert_eq!(session.feed_from(&[9, 3], 0), Fed { answers: vec![Err(Refusal { number: 10, detail: 9 })], next: 2 });
 }
 
@@ -389,11 +462,17 @@ fn sessions_are_saved() {
         SOLVE.to_vec(),
         place(1, 0, shifted),
         SOLVE.to_vec(),
+        withdraw(0, 0),
+        SOLVE.to_vec(),
+        place(0, 0, shifted),
+        SOLVE.to_vec(),
     ];
     let mut through = Session::new();
     let expected: Vec<_> = commands.iter().map(|command| (through.step(command, 0), through.rig())).collect();
-    assert_eq!(expected.iter().filter(|(reply, _)| reply.answer == Ok(Accepted::Solved)).count(), 2);
-    assert_ne!(expected[4].1, expected[6].1);
+    assert_eq!(expected.iter().filter(|(reply, _)| reply.answer == Ok(Accepted::Solved)).count(), 4);
+    for n in [6, 8, 10] {
+        assert_ne!(expected[n - 2].1, expected[n].1);
+    }
     // Saved after each command and taken up again: the same replies, the same rig, the same parts.
     let mut session = Session::new();
     for (command, (reply, rig)) in commands.iter().zip(expected) {
@@ -416,6 +495,7 @@ fn refusals_are_told() {
     let told = |number, detail| Refusal { number, detail }.to_string();
     assert_eq!(told(7, 3), "cell 3 (view * cameras + camera), or pose 3 of a list, has a number that is not finite");
     assert_eq!(told(12, 513), "view 2, camera 1 is outside the rig");
+    assert_eq!(told(24, 513), "view 2, camera 1 holds no pose");
 }
 
 // ---- no memory at all

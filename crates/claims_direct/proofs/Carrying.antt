@@ -7,10 +7,10 @@ use mathlib.Core.Logic.{_↔_}
 use mathlib.Core.Bool.{Bool, true, false, true≢false, false≢true}
 use mathlib.Core.Option.{Option, none, some}
 use mathlib.Core.List.{List, [], _∷_, _++_}
-use Rattle.refusal.specs.Table.{numberOf, detailOf, refuseIf, refuseAt, orElse, firstOf}
+use Rattle.refusal.specs.Table.{numberOf, detailOf, refuseIf, refuseAt, firstOf}
 use Rattle.refusal.specs.declared.Refusal.{Refusal}
 use Rattle.lists.specs.Finding.{lowest}
-use Rattle.inputs.proofs.Answering.{refuseAt-some, firstOf-none, AllNone}
+use Rattle.inputs.proofs.Answering.{refuseAt-some, firstOf-none, AllNone, firstOf-append}
 use Rattle.lists.proofs.Lowest.{lowest-first, lowest-passes, lowest-before, lowest-none-fails, lowest-nothing}
 use Rattle.claims_direct.specs.Deciding.{naming, plain, LowestBelow}
 use Rattle.claims_direct.proofs.Deciding.{Carries}
@@ -93,12 +93,6 @@ pub all-none-firstOf : (checks : List (Option Refusal)) → AllNone checks → f
 unfolding firstOf
 all-none-firstOf [] h = refl
 all-none-firstOf (check ∷ later) (e, h) = firstOf-none check later e ∙ all-none-firstOf later h
-
-pub firstOf-append : (checks later : List (Option Refusal)) → firstOf (checks ++ later) ≡ orElse (firstOf checks) (firstOf later)
-unfolding firstOf orElse
-firstOf-append [] later = refl
-firstOf-append (none ∷ checks) later = firstOf-append checks later
-firstOf-append (some r ∷ checks) later = refl
 
 pub firstOf-flatten : (checks later : List (Option Refusal)) → firstOf (firstOf checks ∷ later) ≡ firstOf (checks ++ later)
 unfolding firstOf

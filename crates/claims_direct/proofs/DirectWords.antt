@@ -18,7 +18,7 @@ use Rattle.refusal.specs.declared.Refusal.{Refusal}
 use Rattle.refusal.specs.declared.Refusal.the-variants.{InsufficientData, TooMany, InvalidReference, CountDiffers, WrongLength, BadMark, NotFinite, Unreached, EmptyView}
 use Rattle.limits.specs.Limits.{maxViews, maxCameras, firstNeeds, secondNeeds}
 use Rattle.inputs.specs.Inputs.{sizeRefusal, cellCount, lowestOtherCount, countRefusal, lengthRefusal, lowestBadMark, markRefusal, inputRefusal}
-use Rattle.inputs.proofs.Answering.{AllNone, Sizes, sizeRefusal-none, sizeRefusal-sizes}
+use Rattle.inputs.proofs.Answering.{AllNone, Sizes, sizeRefusal-none, sizeRefusal-sizes, firstOf-append}
 use Rattle.lists.proofs.PowerSums.{powerSum-agree}
 use Rattle.lists.specs.Masks.{inMask}
 use Rattle.placing.specs.Grid.{Grid, hasPlace}
@@ -34,7 +34,7 @@ use Rattle.claims_direct.proofs.FinitePoses.{finitePose-numbers}
 use Rattle.claims_direct.proofs.WellFormed.{PassesBefore8, notFiniteBy, isBad, isBad-mark}
 use Rattle.claims_direct.proofs.MarkedViews.{empty-holds-none, not-empty-holds}
 use Rattle.claims_direct.proofs.Demand3.{unplaced-unchained, names-unchained, some-unchained, every-chained}
-use Rattle.claims_direct.proofs.Carrying.{refuseIf-carries, refuseIf-plain, lowest-carries, all-none-firstOf, firstOf-append, firstOf-flatten}
+use Rattle.claims_direct.proofs.Carrying.{refuseIf-carries, refuseIf-plain, lowest-carries, all-none-firstOf, firstOf-flatten}
 
 -- ---- 1, 2 and 3
 

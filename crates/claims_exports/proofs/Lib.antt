@@ -5,6 +5,7 @@ pub mod Records
 pub mod Details
 pub mod Answers
 pub mod StepDemand1
+pub mod TakenBack
 pub mod SolveSteps
 pub mod Streams
 pub mod SolveStreams

@@ -32,7 +32,7 @@ pub call-solve : (t : State) → Usable t → (stream : List ℕ) → length str
 unfolding read widthOf
 call-solve t u stream short at h e =
     call-reads t stream at (passes-of-usable t stream short u) h
-    ∙ ap (read t stream at) (parse-solve stream at (omega arith) (omega arith) (rw e (omega arith)) (rw e (omega arith)))
+    ∙ ap (read t stream at) (parse-solve stream at (omega arith) (omega arith) (omega arith) (rw e (omega arith)) (rw e (omega arith)))
     ∙ obeyed-answerTo t solve (at + solveWidth)
 
 module _ (words stream : List ℕ) (at : ℕ) (buffer first : List Float) (second : List ℕ) (r next : ℕ) (words′ : List ℕ) (buffer′ first′ : List Float)

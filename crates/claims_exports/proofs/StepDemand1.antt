@@ -21,7 +21,7 @@ module _ (words stream : List ℕ) (at : ℕ) (buffer first : List Float) (secon
   t = stateIn words buffer first second
 
   -- The reply that is read from the number, the state that the lent memory is, and the next offset.
-  step-result : result (replyIn r) (stateIn words′ buffer′ first′ second′) next ≡ call t stream at
+  pub step-result : result (replyIn r) (stateIn words′ buffer′ first′ second′) next ≡ call t stream at
   step-result = λ i.
       let a = step-answers words stream at buffer first second r next words′ buffer′ first′ second′ a-record step bytes i in
       result (a .reply) (a .after) (next-again words stream at buffer first second r next words′ buffer′ first′ second′ a-record step i)

@@ -1,5 +1,5 @@
 -- Streams beside the texts that are printed for them, as bytes: rows for every refusal that a stream can meet and for each rule of their order, by
--- document 01, "A stream arrives", the table of refusals and the order below it. The texts are worked out by hand from that document. Where a rig is
+-- document 01, "A stream arrives", the table of refusals and the order below it, and document 02. The texts are worked out by hand from the documents. Where a rig is
 -- solved there are no turns, so that a link is the parent's shift less the camera's, and a target the camera's shift and the pose's together; the
 -- signs of zeros there are as `samples/oracle.py` prints them. Limits and lengths are written as numbers, not by the names that the definitions use.
 -- Rests on the state of a session.
@@ -86,7 +86,7 @@ held numbers masks views cameras reference steps =
       steps = steps;
     }
 
--- ---- the bytes of commands, by "0x01 Size", "0x02 Pose" and "0x03 Solve"
+-- ---- the bytes of commands, by "0x01 Size", "0x02 Pose", "0x03 Solve" and "Command 0x04, with view and camera bytes"
 
 abbrev size : ℕ → ℕ → ℕ → List ℕ
 size views cameras reference = 1 ∷ views ∷ cameras ∷ reference ∷ []
@@ -96,6 +96,9 @@ pose view camera x y z i j k w = 2 ∷ view ∷ camera ∷ (x ++ (y ++ (z ++ (i 
 
 abbrev solve : List ℕ
 solve = 3 ∷ []
+
+abbrev withdraw : ℕ → ℕ → List ℕ
+withdraw view camera = 4 ∷ view ∷ camera ∷ []
 
 -- Doubles, low byte first: 0, 1, 2; infinity, its negative, a NaN; the greatest finite one, its negative; the nearest below 0.
 abbrev nought : List ℕ
@@ -153,12 +156,14 @@ sevenfold view camera a = pose view camera a a a a a a a
 unfoldable pub emptyStream : Row
 emptyStream = fresh []
 
--- 21: Pose and Solve before an accepted Size; 21 before 12 and before 7. A refused Size is none.
+-- 21: Pose, Withdraw and Solve before an accepted Size; 21 before 12, before 24 and before 7. A refused Size is none.
 unfoldable pub beforeSize : Row
 beforeSize =
     fresh
     (prints (shift 0 0 one nought nought) ("no 21 0" ∷ [])
     ∷ prints (sevenfold 64 16 infinity) ("no 21 0" ∷ [])
+    ∷ prints (withdraw 0 0) ("no 21 0" ∷ [])
+    ∷ prints (withdraw 64 16) ("no 21 0" ∷ [])
     ∷ prints solve ("no 21 0" ∷ [])
     ∷ prints (size 1 1 1) ("no 3 0" ∷ [])
     ∷ prints solve ("no 21 0" ∷ [])
@@ -222,6 +227,99 @@ posesInOrder =
     ∷ prints (sevenfold 1 0 belowAll) ("no 7 3" ∷ [])
     ∷ prints (shift 1 0 one nought nought) []
     ∷ prints (sevenfold 1 0 infinity) ("no 23 256" ∷ [])
+    ∷ [])
+
+-- Withdraw: 12 before 24, view × 256 + camera for both. It empties the cell that it names, once, and that cell alone; the cell then takes a pose again.
+unfoldable pub withdrawsInOrder : Row
+withdrawsInOrder =
+    fresh
+    (prints (size 2 3 0) []
+    ∷ prints (withdraw 2 0) ("no 12 512" ∷ [])
+    ∷ prints (withdraw 0 3) ("no 12 3" ∷ [])
+    ∷ prints (withdraw 255 255) ("no 12 65535" ∷ [])
+    ∷ prints (withdraw 1 2) ("no 24 258" ∷ [])
+    ∷ prints (shift 1 2 one nought nought) []
+    ∷ prints (shift 1 1 one nought nought) []
+    ∷ prints (shift 0 2 one nought nought) []
+    ∷ prints (withdraw 0 1) ("no 24 1" ∷ [])
+    ∷ prints (withdraw 1 0) ("no 24 256" ∷ [])
+    ∷ prints (withdraw 1 2) []
+    ∷ prints (withdraw 1 2) ("no 24 258" ∷ [])
+    ∷ prints (shift 1 1 one nought nought) ("no 23 257" ∷ [])
+    ∷ prints (shift 0 2 one nought nought) ("no 23 2" ∷ [])
+    ∷ prints (shift 1 2 one nought nought) []
+    ∷ prints (shift 1 2 one nought nought) ("no 23 258" ∷ [])
+    ∷ [])
+
+-- Nothing but the one bit: the views above and below it are still held, and without any pose the sizes and the reference, camera 1, are what they were.
+unfoldable pub sizesStay : Row
+sizesStay =
+    fresh
+    (prints (size 3 2 1) []
+    ∷ prints (shift 0 1 one nought nought) []
+    ∷ prints (shift 1 1 one nought nought) []
+    ∷ prints (shift 2 1 one nought nought) []
+    ∷ prints (withdraw 1 1) []
+    ∷ prints (shift 0 1 one nought nought) ("no 23 1" ∷ [])
+    ∷ prints (shift 2 1 one nought nought) ("no 23 513" ∷ [])
+    ∷ prints (withdraw 0 1) []
+    ∷ prints (withdraw 0 1) ("no 24 1" ∷ [])
+    ∷ prints (withdraw 2 1) []
+    ∷ prints (size 1 1 0) ("no 22 0" ∷ [])
+    ∷ prints solve ("no 8 1" ∷ [])
+    ∷ prints (withdraw 3 0) ("no 12 768" ∷ [])
+    ∷ prints (withdraw 0 2) ("no 12 2" ∷ [])
+    ∷ prints (shift 2 1 one nought nought) []
+    ∷ [])
+
+-- The only link between cameras 0 and 1 on one side and 2 and 3 on the other, view 2, from either end; and the only pose of a view.
+unfoldable pub linkWithdrawn : Row
+linkWithdrawn =
+    fresh
+    (prints (size 3 4 0) []
+    ∷ prints (shift 0 0 one nought nought) []
+    ∷ prints (shift 0 1 one nought nought) []
+    ∷ prints (shift 1 2 one nought nought) []
+    ∷ prints (shift 1 3 one nought nought) []
+    ∷ prints solve ("no 8 12" ∷ [])
+    ∷ prints (shift 2 1 one nought nought) []
+    ∷ prints (shift 2 2 one nought nought) []
+    ∷ prints (withdraw 2 2) []
+    ∷ prints solve ("no 8 12" ∷ [])
+    ∷ prints (shift 2 2 one nought nought) []
+    ∷ prints (withdraw 2 1) []
+    ∷ prints solve ("no 8 12" ∷ [])
+    ∷ prints (withdraw 2 2) []
+    ∷ prints (shift 1 0 one nought nought) []
+    ∷ prints solve ("no 9 2" ∷ [])
+    ∷ [])
+
+-- A bumped target: the pose of view 1 and camera 0 is wrong, is taken back, and is sent again. Each time as if the wrong one had never come: the texts are
+-- those of `solvedAgain`.
+unfoldable pub takenBack : Row
+takenBack =
+    fresh
+    (prints (size 2 2 1) []
+    ∷ prints (shift 0 0 one nought nought) []
+    ∷ prints (sevenfold 1 0 greatest) []
+    ∷ prints (shift 0 1 nought two nought) []
+    ∷ prints (shift 1 1 nought nought one) []
+    ∷ prints (withdraw 1 0) []
+    ∷ prints solve
+    ("ok 2 2"
+    ∷ "c 0 1 1 bff0000000000000 4000000000000000 0000000000000000 0000000000000000 0000000000000000 0000000000000000 3ff0000000000000"
+    ∷ "c 1 1 0 0000000000000000 0000000000000000 0000000000000000 0000000000000000 0000000000000000 0000000000000000 3ff0000000000000"
+    ∷ "v 0 0000000000000000 4000000000000000 0000000000000000 0000000000000000 0000000000000000 0000000000000000 3ff0000000000000"
+    ∷ "v 1 0000000000000000 0000000000000000 3ff0000000000000 0000000000000000 0000000000000000 0000000000000000 3ff0000000000000"
+    ∷ [])
+    ∷ prints (shift 1 0 one nought two) []
+    ∷ prints solve
+    ("ok 2 2"
+    ∷ "c 0 1 1 bff0000000000000 3ff0000000000000 bfe0000000000000 0000000000000000 0000000000000000 0000000000000000 3ff0000000000000"
+    ∷ "c 1 1 0 0000000000000000 0000000000000000 0000000000000000 0000000000000000 0000000000000000 0000000000000000 3ff0000000000000"
+    ∷ "v 0 0000000000000000 3ff8000000000000 bfd0000000000000 0000000000000000 0000000000000000 0000000000000000 3ff0000000000000"
+    ∷ "v 1 0000000000000000 3fe0000000000000 3ff4000000000000 0000000000000000 0000000000000000 0000000000000000 3ff0000000000000"
+    ∷ [])
     ∷ [])
 
 -- 7 for each of the seven numbers, and for NaNs of any bits. The greatest finite double passes it, and so do four zeros for a rotation.
@@ -494,7 +592,7 @@ unknownLater =
     fresh
     (prints (size 1 1 0) []
     ∷ prints (size 1 1 0) ("no 22 0" ∷ [])
-    ∷ prints (4 ∷ []) ("no 10 4" ∷ [])
+    ∷ prints (5 ∷ []) ("no 10 5" ∷ [])
     ∷ prints (3 ∷ 255 ∷ []) []
     ∷ [])
 
@@ -540,6 +638,14 @@ poseCutHeld =
     ∷ prints (shift 0 0 one nought nought) []
     ∷ prints (2 ∷ replicate 57 0) ("no 11 63" ∷ [])
     ∷ [])
+
+-- 11 of Withdraw, before 21, 12 and 24: the byte alone, and with a view.
+unfoldable pub withdrawCut : List Row
+withdrawCut =
+    fresh (prints (4 ∷ []) ("no 11 0" ∷ []) ∷ [])
+    ∷ fresh (prints (size 1 1 0) [] ∷ prints (4 ∷ 1 ∷ []) ("no 11 4" ∷ []) ∷ [])
+    ∷ fresh (prints (size 1 1 0) [] ∷ prints (4 ∷ 0 ∷ []) ("no 11 4" ∷ []) ∷ [])
+    ∷ []
 
 -- 13 for 65,537 bytes, each of them a Solve, and nothing else; 65,536 pass it.
 unfoldable pub lengthsOfStreams : List Row
@@ -616,7 +722,22 @@ allBits =
     ∷ prints (sevenfold 63 15 infinity) ("no 23 16143" ∷ [])
     ∷ [])
 
--- So does the last bit that smaller sizes allow.
+-- And of every bit Withdraw clears the last, and no other.
+unfoldable pub lastWithdrawn : Row
+lastWithdrawn =
+    held zeros (replicate 16 18446744073709551615) 64 16 15
+    (prints (withdraw 63 16) ("no 12 16144" ∷ [])
+    ∷ prints (withdraw 64 15) ("no 12 16399" ∷ [])
+    ∷ prints (withdraw 63 15) []
+    ∷ prints (withdraw 63 15) ("no 24 16143" ∷ [])
+    ∷ prints (shift 62 15 one nought nought) ("no 23 15887" ∷ [])
+    ∷ prints (shift 0 15 one nought nought) ("no 23 15" ∷ [])
+    ∷ prints (shift 63 14 one nought nought) ("no 23 16142" ∷ [])
+    ∷ prints (shift 63 0 one nought nought) ("no 23 16128" ∷ [])
+    ∷ prints (shift 63 15 one nought nought) []
+    ∷ [])
+
+-- The last bit that smaller sizes allow passes 5, too.
 unfoldable pub lastBit : Row
 lastBit =
     held zeros (0 ∷ 0 ∷ 2 ∷ replicate 13 0) 2 3 0
@@ -639,6 +760,12 @@ notFiniteHeld =
     ∷ held oneCell (3 ∷ 3 ∷ replicate 14 0) 2 2 0 (prints solve ("no 7 3" ∷ []) ∷ [])
     ∷ held infinities (replicate 16 0) 3 3 0 (prints solve ("no 8 6" ∷ []) ∷ [])
     ∷ []
+
+-- "the empty cell's no longer matter": the infinities of view 1 and camera 1, the only pose of that camera, give 7 until it is withdrawn, and then 8.
+unfoldable pub notFiniteWithdrawn : Row
+notFiniteWithdrawn =
+    held oneCell (1 ∷ 2 ∷ replicate 14 0) 2 2 0
+    (prints solve ("no 7 3" ∷ []) ∷ prints (withdraw 1 1) [] ∷ prints solve ("no 8 2" ∷ []) ∷ [])
 
 -- Buffers of zeros with one number that is not finite: the last of the last cell, and the first of view 1 and camera 0.
 abbrev lastNumber : List ℕ
@@ -664,13 +791,17 @@ sevenWritten =
 
 -- Rows that the program can be run on.
 unfoldable pub freshRows : List Row
-unfolding emptyStream beforeSize sizes atTheLimits posesInOrder eachNumber solvesInOrder sixteenCameras solvedAgain printedBits unknownFirst unknownLater unknownLast cutAtOnce sizeCut poseCutOutside poseCutHeld lengthsOfStreams
+unfolding emptyStream beforeSize sizes atTheLimits posesInOrder withdrawsInOrder sizesStay linkWithdrawn takenBack eachNumber solvesInOrder sixteenCameras solvedAgain printedBits unknownFirst unknownLater unknownLast cutAtOnce sizeCut poseCutOutside poseCutHeld withdrawCut lengthsOfStreams
 freshRows =
     (emptyStream
     ∷ beforeSize
     ∷ sizes
     ∷ atTheLimits
     ∷ posesInOrder
+    ∷ withdrawsInOrder
+    ∷ sizesStay
+    ∷ linkWithdrawn
+    ∷ takenBack
     ∷ eachNumber
     ∷ solvesInOrder
     ∷ sixteenCameras
@@ -684,6 +815,7 @@ freshRows =
     ∷ poseCutHeld
     ∷ [])
     ++ cutAtOnce
+    ++ withdrawCut
     ++ lengthsOfStreams
 
 -- More of them, with larger rigs that are solved.
@@ -693,8 +825,8 @@ solvedRows = sevenNumbers ∷ minusZero ∷ bothInfinities ∷ elevenViews ∷ t
 
 -- Rows from states that it never begins with.
 unfoldable pub otherRows : List Row
-unfolding wrongAndTooLong wrongAndBad wrongLengths rightLengths wrongRecords noBits allBits lastBit notFiniteHeld oneNotFinite sevenWritten
-otherRows = (wrongAndTooLong ∷ noBits ∷ allBits ∷ lastBit ∷ []) ++ wrongAndBad ++ wrongLengths ++ rightLengths ++ wrongRecords ++ notFiniteHeld ++ oneNotFinite ++ sevenWritten
+unfolding wrongAndTooLong wrongAndBad wrongLengths rightLengths wrongRecords noBits allBits lastWithdrawn lastBit notFiniteHeld notFiniteWithdrawn oneNotFinite sevenWritten
+otherRows = (wrongAndTooLong ∷ noBits ∷ allBits ∷ lastWithdrawn ∷ lastBit ∷ notFiniteWithdrawn ∷ []) ++ wrongAndBad ++ wrongLengths ++ rightLengths ++ wrongRecords ++ notFiniteHeld ++ oneNotFinite ++ sevenWritten
 
 unfoldable pub rows : List Row
 unfolding freshRows solvedRows otherRows
@@ -732,6 +864,8 @@ nextCommand =
     ∷ calledAt 0 59 (fresh (prints (shift 0 0 one nought nought) ("no 21 0" ∷ []) ∷ prints solve [] ∷ []))
     ∷ calledAt 1 5 (fresh (prints (0 ∷ []) [] ∷ prints (size 1 1 0) [] ∷ prints solve [] ∷ []))
     ∷ calledAt 4 5 (fresh (prints (size 1 1 0) [] ∷ prints solve ("no 21 0" ∷ []) ∷ prints solve [] ∷ []))
+    ∷ calledAt 0 3 (held zeros (1 ∷ replicate 15 0) 1 1 0 (prints (withdraw 0 0) [] ∷ prints solve [] ∷ []))
+    ∷ calledAt 1 4 (held zeros (replicate 16 0) 1 1 0 (prints (9 ∷ []) [] ∷ prints (withdraw 0 0) ("no 24 0" ∷ []) ∷ prints solve [] ∷ []))
     ∷ []
 
 -- "5, 10, 11 and 13 end the stream: the next offset is then its length." 13 before 5.

@@ -1,5 +1,5 @@
--- What an accepted Size, an accepted Pose and a solved call leave, by the bytes of the command (`size-leaves`, `pose-leaves`, `solve-leaves`). Assumes
--- nothing.
+-- What an accepted Size, Pose or Withdraw and a solved call leave, by the bytes of the command (`size-leaves`, `pose-leaves`, `withdraw-leaves`,
+-- `solve-leaves`). Assumes nothing.
 use Prim.Native.Nat.{ℕ, _+_, _≤_, _<_}
 use native.Mathlib.Omega.{arith}
 use mathlib.Core.Path.{_≡_, refl, _∙_}
@@ -8,24 +8,26 @@ use mathlib.Core.Option.{none}
 use mathlib.Core.List.{List}
 use lib.ListN.{length, length-set}
 use Rattle.placing.specs.Rig.{rigGrid}
-use Rattle.command.specs.Command.{size, place, edit, solve, offeredPose}
+use Rattle.command.specs.Command.{size, place, withdraw, edit, solve, offeredPose}
 use Rattle.session_record.specs.Session.{sessionGrid}
 use Rattle.session.specs.Size.{sessionAfterSize}
 use Rattle.session.specs.Pose.{sessionAfterPose, bufferAfterPose}
+use Rattle.session.specs.Withdraw.{sessionAfterWithdraw}
 use Rattle.session.specs.Solve.{firstAfterSolve, secondAfterSolve}
 use Rattle.session.specs.Commands.{editSession, editBuffer, commandRefusal, sessionAfter, bufferAfter}
 use Rattle.session.specs.Call.{State, firstAfter, secondAfter, stateAfter}
 use Rattle.claims_direct.proofs.Beyond.{beyond-unchanged-answered}
 use Rattle.claims_streams.specs.Stream.{Usable}
-use Rattle.claims_streams.specs.CallDemand1.{operand, namedStart, SizeLeaves, PoseLeaves, SolveLeaves}
+use Rattle.claims_streams.specs.CallDemand1.{operand, namedStart, SizeLeaves, PoseLeaves, WithdrawLeaves, SolveLeaves}
 use Rattle.claims_streams.proofs.Accepting.{solve-accepted}
 use Rattle.claims_streams.proofs.Sound.{has-sizes, sound-of-possible}
 use Rattle.claims_streams.proofs.Edits.Pose.{Placeable, place-accepted, camera-fits, cell-fits, bit-here, bit-elsewhere}
+use Rattle.claims_streams.proofs.Edits.Withdraw.{withdraw-accepted, camera-fits as camera-fits-withdrawn, clear-here, clear-elsewhere}
 use Rattle.claims_streams.proofs.Cells.{getD-put-within, getD-put-before, getD-put-after}
 use Rattle.claims_streams.proofs.CallWords.{number-offered}
 use Rattle.claims_streams.proofs.Usable.{buffer-kept}
 
--- ---- the three commands
+-- ---- the commands
 
 module _ (t : State) (stream : List ℕ) (at : ℕ) where
   pub size-leaves : SizeLeaves t stream at (stateAfter t (edit (size (operand stream at 1) (operand stream at 2) (operand stream at 3))))
@@ -62,6 +64,28 @@ module _ (t : State) (stream : List ℕ) (at : ℕ) where
           others-kept = λ i outside.
               ⊎-elim (getD-put-before (t .buffer) (namedStart stream at) p inside i) (getD-put-after (t .buffer) (namedStart stream at) p inside i) outside;
           buffer-length = buffer-kept t u (edit (place view camera p)) e;
+          same-views = refl;
+          same-cameras = refl;
+          same-reference = refl;
+          same-first = refl;
+          same-second = refl;
+        }
+
+    pub withdraw-leaves : length (t .session .masks) ≡ 16
+        → commandRefusal (t .session) (t .buffer) (edit (withdraw (operand stream at 1) (operand stream at 2))) ≡ none
+        → WithdrawLeaves t stream at (stateAfter t (edit (withdraw (operand stream at 1) (operand stream at 2))))
+    unfolding commandRefusal stateAfter sessionAfter bufferAfter firstAfter secondAfter editSession editBuffer sessionAfterWithdraw
+    withdraw-leaves sixteen e =
+        let view = operand stream at 1 in
+        let camera = operand stream at 2 in
+        let sound = sound-of-possible (t .session) (u .record-possible) in
+        let held = withdraw-accepted (t .session) view camera e .held in
+        let known : camera < length (t .session .masks) = omega (arith, camera-fits-withdrawn (t .session) view camera sound e, sixteen) in
+        record {
+          bit-clear = clear-here (t .session .masks) view camera known held;
+          other-bits = clear-elsewhere (t .session .masks) view camera known held;
+          mask-count = length-set (t .session .masks) camera _;
+          same-buffer = refl;
           same-views = refl;
           same-cameras = refl;
           same-reference = refl;

@@ -1,5 +1,5 @@
 -- Demand 1 for one call of the session (`call-demand-1`): whatever the state, the stream and the offset, the call refuses by a number and a detail
--- exactly when document 01's words for it hold and none before them do; and so for the code's own answer (`called-demand-1`). The checks in words
+-- exactly when the papers' words for it hold and none before them do; and so for the code's own answer (`called-demand-1`). The checks in words
 -- come to what the call finds (`CallWords`), list after list in the papers' order; what a call leaves that is not refused is in `AcceptedCalls`.
 -- Assumes nothing.
 use Prim.Native.Nat.{ℕ, _+_, _≤_, _<_}
@@ -10,7 +10,7 @@ use mathlib.Core.Logic.{_⊎_, inl, inr, ⊎-elim}
 use mathlib.Core.Bool.{false}
 use mathlib.Core.Option.{Option, none, some}
 use mathlib.Core.List.{List, _++_}
-use lib.ListN.{length}
+use lib.ListN.{length, getD}
 use lib.Ieee.{Float}
 use borrow.Author.Tests.{eqb-false}
 use Rattle.refusal.specs.Table.{numberOf, detailOf, orElse}
@@ -19,7 +19,7 @@ use Rattle.refusal.specs.declared.Refusal.the-variants.{UnknownCommand, Truncat
 use Rattle.claims_direct.specs.Deciding.{Check, Decides, AllSilent}
 use Rattle.claims_direct.proofs.GridRefusals.{orElse-none}
 use Rattle.lists.proofs.Tests.{or-false}
-use Rattle.command.specs.Command.{size, place, Command, edit, solve, sizeByte, poseByte, solveByte, sizeWidth, poseWidth, solveWidth, complete, parse, offeredPose}
+use Rattle.command.specs.Command.{size, place, withdraw, Command, edit, solve, sizeByte, poseByte, solveByte, withdrawByte, sizeWidth, poseWidth, solveWidth, withdrawWidth, complete, parse, offeredPose}
 use Rattle.session.specs.Commands.{commandRefusal, Left}
 use Rattle.session.specs.Call.{State, state, result, callRefusal, replyTo, stateAfter, obeyed, read, call, Called}
 use Rattle.session.specs.Inner.Steps.{resultOf}
@@ -28,9 +28,9 @@ use Rattle.session.specs.declared.Reply.the-variants.{End, Accepted, Solved, Re
 use Rattle.session.specs.declared.Step.{Step}
 use Rattle.session.proofs.Obeying.{obeyed-refused, obeyed-accepted, call-refused, call-end, call-read}
 use Rattle.claims_streams.specs.Stream.{Answer, Usable, endsStream}
-use Rattle.claims_streams.specs.CallDemand1.{when, Begins, BeginsOfWidth, operand, sizeCommandChecks, poseCommandChecks, solveCommandChecks, firstChecks, readingChecks, commandChecks, callChecks, RefusedWith, EndsTheStream, SizeLeaves, PoseLeaves, SolveLeaves, CallDemand1}
-use Rattle.claims_streams.proofs.CallWords.{comes-first, usable-of-call, Reading, no-command, cut-short, whole-size, whole-pose, whole-solve, reading, comes-unknown, comes-cut-short, comes-whole, comes-nothing-read, comes-size, comes-pose, comes-solve}
-use Rattle.claims_streams.proofs.AcceptedCalls.{size-leaves, pose-leaves, solve-leaves}
+use Rattle.claims_streams.specs.CallDemand1.{when, Begins, BeginsOfWidth, operand, sizeCommandChecks, poseCommandChecks, withdrawCommandChecks, solveCommandChecks, firstChecks, readingChecks, commandChecks, callChecks, RefusedWith, EndsTheStream, SizeLeaves, PoseLeaves, WithdrawLeaves, SolveLeaves, CallDemand1}
+use Rattle.claims_streams.proofs.CallWords.{comes-first, usable-of-call, Reading, no-command, cut-short, whole-size, whole-pose, whole-withdraw, whole-solve, reading, comes-unknown, comes-cut-short, comes-whole, comes-nothing-read, comes-size, comes-pose, comes-withdraw, comes-solve}
+use Rattle.claims_streams.proofs.AcceptedCalls.{size-leaves, pose-leaves, withdraw-leaves, solve-leaves}
 use Rattle.claims_streams.proofs.DecidingParts.{Comes, some-same, some-not-none, comes-append, comes-when, comes-when-not}
 use Rattle.claims_streams.proofs.Records.{possible-left}
 use Rattle.claims_streams.proofs.Streams.{command-goes-on}
@@ -72,6 +72,16 @@ goes-on-number q e ending =
 
 -- ---- what the checks come to, and the demand
 
+-- A command that changes the session begins there.
+abbrev Changes : List ℕ → ℕ → Type 0
+Changes stream at = Begins stream at sizeByte ⊎ (Begins stream at poseByte ⊎ Begins stream at withdrawByte)
+
+-- So it is before the end, and no Solve.
+changes-begin : (stream : List ℕ) (at : ℕ) → Changes stream at → (at < length stream) × (getD stream at 0 ≡ solveByte → ⊥)
+changes-begin stream at (inl (l, b)) = (l, λ s. omega arith)
+changes-begin stream at (inr (inl (l, b))) = (l, λ s. omega arith)
+changes-begin stream at (inr (inr (l, b))) = (l, λ s. omega arith)
+
 module _ (t : State) (stream : List ℕ) (at : ℕ) where
   abbrev checks : List Check
   checks = callChecks t stream at
@@ -95,6 +105,7 @@ module _ (t : State) (stream : List ℕ) (at : ℕ) where
         end-changes-nothing = λ e. refl;
         accepted-size = λ e. absurd (other-kind (Refused q) Accepted (omega arith) e);
         accepted-pose = λ e. absurd (other-kind (Refused q) Accepted (omega arith) e);
+        accepted-withdraw = λ e. absurd (other-kind (Refused q) Accepted (omega arith) e);
         solved-leaves = λ e. absurd (other-kind (Refused q) Solved (omega arith) e);
         next-at-end = λ ends. at-end (ending-number q ends);
         next-command = λ on. goes-on (λ ending. on (number-ends q ending));
@@ -118,13 +129,14 @@ module _ (t : State) (stream : List ℕ) (at : ℕ) where
           end-exactly = (λ e. (all-silent, here), λ w. refl);
           accepted-exactly = (
             λ e. absurd (other-kind End Accepted (omega arith) e),
-            λ w. absurd (⊎-elim (λ b. past (b .0)) (λ b. past (b .0)) (w .1)),
+            λ w. absurd (past (changes-begin stream at (w .1) .0)),
           );
           solved-exactly = (λ e. absurd (other-kind End Solved (omega arith) e), λ w. absurd (past (w .1 .0)));
           refusal-changes-nothing = λ n d refused. refl;
           end-changes-nothing = λ e. refl;
           accepted-size = λ e. absurd (other-kind End Accepted (omega arith) e);
           accepted-pose = λ e. absurd (other-kind End Accepted (omega arith) e);
+          accepted-withdraw = λ e. absurd (other-kind End Accepted (omega arith) e);
           solved-leaves = λ e. absurd (other-kind End Solved (omega arith) e);
           next-at-end = λ ends. here;
           next-command = λ on. absurd (on (inl refl));
@@ -137,25 +149,26 @@ module _ (t : State) (stream : List ℕ) (at : ℕ) where
     not-ending r not-end not-refused (inl e) = other-kind r End not-end e
     not-ending r not-end not-refused (inr (n, d, refused, _)) = none-refused r not-refused n d refused
 
-    demand-accepted : (after : State) (width : ℕ) → Begins stream at sizeByte ⊎ Begins stream at poseByte → BeginsOfWidth stream at width
-        → at + width ≤ length stream → (Begins stream at sizeByte → SizeLeaves t stream at after) → (Begins stream at poseByte → PoseLeaves t stream at after)
-        → CallDemand1 t stream at (result Accepted after (at + width))
-    demand-accepted after width begins of-width fits leaves-sizes leaves-pose =
+    demand-accepted : (after : State) (width : ℕ) → Changes stream at → BeginsOfWidth stream at width → at + width ≤ length stream
+        → (Begins stream at sizeByte → SizeLeaves t stream at after) → (Begins stream at poseByte → PoseLeaves t stream at after)
+        → (Begins stream at withdrawByte → WithdrawLeaves t stream at after) → CallDemand1 t stream at (result Accepted after (at + width))
+    demand-accepted after width begins of-width fits leaves-sizes leaves-pose leaves-withdrawn =
         record {
           refused-exactly = λ n d. (λ refused. absurd (none-refused Accepted (omega arith) n d refused), λ decides. absurd (none-decided n d decides));
           end-exactly = (
             λ e. absurd (other-kind Accepted End (omega arith) e),
-            λ w. absurd (⊎-elim (λ b. let l = b .0 in let e = w .1 in omega arith) (λ b. let l = b .0 in let e = w .1 in omega arith) begins),
+            λ w. absurd (let l = changes-begin stream at begins .0 in let e = w .1 in omega arith),
           );
           accepted-exactly = (λ e. (all-silent, begins), λ w. refl);
           solved-exactly = (
             λ e. absurd (other-kind Accepted Solved (omega arith) e),
-            λ w. absurd (⊎-elim (λ b. let x = b .1 in let y = w .1 .1 in omega arith) (λ b. let x = b .1 in let y = w .1 .1 in omega arith) begins),
+            λ w. absurd (changes-begin stream at begins .1 (w .1 .1)),
           );
           refusal-changes-nothing = λ n d refused. absurd (none-refused Accepted (omega arith) n d refused);
           end-changes-nothing = λ e. absurd (other-kind Accepted End (omega arith) e);
           accepted-size = λ e. leaves-sizes;
           accepted-pose = λ e. leaves-pose;
+          accepted-withdraw = λ e. leaves-withdrawn;
           solved-leaves = λ e. absurd (other-kind Accepted Solved (omega arith) e);
           next-at-end = λ ends. absurd (not-ending Accepted (omega arith) (omega arith) ends);
           next-command = λ on. (width, of-width, fits, refl);
@@ -169,72 +182,83 @@ module _ (t : State) (stream : List ℕ) (at : ℕ) where
           end-exactly = (λ e. absurd (other-kind Solved End (omega arith) e), λ w. absurd (let l = begins .0 in let e = w .1 in omega arith));
           accepted-exactly = (
             λ e. absurd (other-kind Solved Accepted (omega arith) e),
-            λ w. absurd (⊎-elim (λ b. let x = b .1 in let y = begins .1 in omega arith) (λ b. let x = b .1 in let y = begins .1 in omega arith) (w .1)),
+            λ w. absurd (changes-begin stream at (w .1) .1 (begins .1)),
           );
           solved-exactly = (λ e. (all-silent, begins), λ w. refl);
           refusal-changes-nothing = λ n d refused. absurd (none-refused Solved (omega arith) n d refused);
           end-changes-nothing = λ e. absurd (other-kind Solved End (omega arith) e);
           accepted-size = λ e. absurd (other-kind Solved Accepted (omega arith) e);
           accepted-pose = λ e. absurd (other-kind Solved Accepted (omega arith) e);
+          accepted-withdraw = λ e. absurd (other-kind Solved Accepted (omega arith) e);
           solved-leaves = λ e. leaves;
           next-at-end = λ ends. absurd (not-ending Solved (omega arith) (omega arith) ends);
-          next-command = λ on. (solveWidth, inr (inr (begins, refl)), fits, refl);
+          next-command = λ on. (solveWidth, inr (inr (inl (begins, refl))), fits, refl);
         }
 
-  -- ---- the three commands' checks, of which at most one speaks
-
-  abbrev sizeHere : List Check
-  sizeHere = when (Begins stream at sizeByte) (sizeCommandChecks t stream at)
-
-  abbrev poseHere : List Check
-  poseHere = when (Begins stream at poseByte) (poseCommandChecks t stream at)
-
-  abbrev solveHere : List Check
-  solveHere = when (Begins stream at solveByte) (solveCommandChecks t stream at)
+  -- ---- the commands' checks, of which at most one list speaks
 
   other-byte : (a b : ℕ) → (a ≡ b → ⊥) → Begins stream at a → Begins stream at b → ⊥
   other-byte a b differ (_, x) (_, y) = differ (sym x ∙ y)
 
-  no-size : (Begins stream at sizeByte → ⊥) → Comes sizeHere none
-  no-size other = comes-when-not (Begins stream at sizeByte) other (sizeCommandChecks t stream at)
+  -- One command's checks before those of others: it is not this one, or it is, and the others say nothing.
+  module _ (byte : ℕ) (own others : List Check) (o : Option Refusal) where
+    not-here : (Begins stream at byte → ⊥) → Comes others o → Comes (when (Begins stream at byte) own ++ others) o
+    unfolding orElse
+    not-here other comes = comes-append others (when (Begins stream at byte) own) none o (comes-when-not (Begins stream at byte) other own) (λ e. comes)
 
-  no-pose : (Begins stream at poseByte → ⊥) → Comes poseHere none
-  no-pose other = comes-when-not (Begins stream at poseByte) other (poseCommandChecks t stream at)
+    here : Begins stream at byte → Comes own o → Comes others none → Comes (when (Begins stream at byte) own ++ others) o
+    here begins comes silent =
+        subst (Comes (when (Begins stream at byte) own ++ others)) (orElse-none o)
+        (comes-append others (when (Begins stream at byte) own) o none (comes-when (Begins stream at byte) begins own o comes) (λ e. silent))
 
+  abbrev solveHere : List Check
+  solveHere = when (Begins stream at solveByte) (solveCommandChecks t stream at)
+
+  abbrev fromWithdraw : List Check
+  fromWithdraw = when (Begins stream at withdrawByte) (withdrawCommandChecks t stream at) ++ solveHere
+
+  abbrev fromPose : List Check
+  fromPose = when (Begins stream at poseByte) (poseCommandChecks t stream at) ++ fromWithdraw
+
+  -- None of the commands from some on begins there.
   no-solve : (Begins stream at solveByte → ⊥) → Comes solveHere none
   no-solve other = comes-when-not (Begins stream at solveByte) other (solveCommandChecks t stream at)
 
+  none-from-withdraw : (Begins stream at withdrawByte → ⊥) → (Begins stream at solveByte → ⊥) → Comes fromWithdraw none
+  none-from-withdraw w s = not-here withdrawByte (withdrawCommandChecks t stream at) solveHere none w (no-solve s)
+
+  none-from-pose : (Begins stream at poseByte → ⊥) → (Begins stream at withdrawByte → ⊥) → (Begins stream at solveByte → ⊥) → Comes fromPose none
+  none-from-pose p w s = not-here poseByte (poseCommandChecks t stream at) fromWithdraw none p (none-from-withdraw w s)
+
   comes-commands-size : Begins stream at sizeByte → (o : Option Refusal) → Comes (sizeCommandChecks t stream at) o → Comes (commandChecks t stream at) o
-  unfolding orElse
-  comes-commands-size here o comes =
-      subst (Comes (commandChecks t stream at)) (orElse-none o)
-      (comes-append (poseHere ++ solveHere) sizeHere o none (comes-when (Begins stream at sizeByte) here (sizeCommandChecks t stream at) o comes)
-      (λ e.
-      comes-append solveHere poseHere none none (no-pose (other-byte sizeByte poseByte (omega arith) here))
-      (λ f. no-solve (other-byte sizeByte solveByte (omega arith) here))))
+  comes-commands-size begins o comes =
+      here sizeByte (sizeCommandChecks t stream at) fromPose o begins comes
+      (none-from-pose (other-byte sizeByte poseByte (omega arith) begins) (other-byte sizeByte withdrawByte (omega arith) begins)
+      (other-byte sizeByte solveByte (omega arith) begins))
 
   comes-commands-pose : Begins stream at poseByte → (o : Option Refusal) → Comes (poseCommandChecks t stream at) o → Comes (commandChecks t stream at) o
-  unfolding orElse
-  comes-commands-pose here o comes =
-      comes-append (poseHere ++ solveHere) sizeHere none o (no-size (other-byte poseByte sizeByte (omega arith) here))
-      (λ e.
-      subst (Comes (poseHere ++ solveHere)) (orElse-none o)
-      (comes-append solveHere poseHere o none (comes-when (Begins stream at poseByte) here (poseCommandChecks t stream at) o comes)
-      (λ f. no-solve (other-byte poseByte solveByte (omega arith) here))))
+  comes-commands-pose begins o comes =
+      not-here sizeByte (sizeCommandChecks t stream at) fromPose o (other-byte poseByte sizeByte (omega arith) begins)
+      (here poseByte (poseCommandChecks t stream at) fromWithdraw o begins comes
+      (none-from-withdraw (other-byte poseByte withdrawByte (omega arith) begins) (other-byte poseByte solveByte (omega arith) begins)))
+
+  comes-commands-withdraw : Begins stream at withdrawByte → (o : Option Refusal) → Comes (withdrawCommandChecks t stream at) o
+      → Comes (commandChecks t stream at) o
+  comes-commands-withdraw begins o comes =
+      not-here sizeByte (sizeCommandChecks t stream at) fromPose o (other-byte withdrawByte sizeByte (omega arith) begins)
+      (not-here poseByte (poseCommandChecks t stream at) fromWithdraw o (other-byte withdrawByte poseByte (omega arith) begins)
+      (here withdrawByte (withdrawCommandChecks t stream at) solveHere o begins comes (no-solve (other-byte withdrawByte solveByte (omega arith) begins))))
 
   comes-commands-solve : Begins stream at solveByte → (o : Option Refusal) → Comes (solveCommandChecks t stream at) o → Comes (commandChecks t stream at) o
-  unfolding orElse
-  comes-commands-solve here o comes =
-      comes-append (poseHere ++ solveHere) sizeHere none o (no-size (other-byte solveByte sizeByte (omega arith) here))
-      (λ e.
-      comes-append solveHere poseHere none o (no-pose (other-byte solveByte poseByte (omega arith) here))
-      (λ f. comes-when (Begins stream at solveByte) here (solveCommandChecks t stream at) o comes))
+  comes-commands-solve begins o comes =
+      not-here sizeByte (sizeCommandChecks t stream at) fromPose o (other-byte solveByte sizeByte (omega arith) begins)
+      (not-here poseByte (poseCommandChecks t stream at) fromWithdraw o (other-byte solveByte poseByte (omega arith) begins)
+      (not-here withdrawByte (withdrawCommandChecks t stream at) solveHere o (other-byte solveByte withdrawByte (omega arith) begins)
+      (comes-when (Begins stream at solveByte) begins (solveCommandChecks t stream at) o comes)))
 
   comes-commands-none : ((byte : ℕ) → Begins stream at byte → ⊥) → Comes (commandChecks t stream at) none
-  unfolding orElse
   comes-commands-none nothing =
-      comes-append (poseHere ++ solveHere) sizeHere none none (no-size (nothing sizeByte))
-      (λ e. comes-append solveHere poseHere none none (no-pose (nothing poseByte)) (λ f. no-solve (nothing solveByte)))
+      not-here sizeByte (sizeCommandChecks t stream at) fromPose none (nothing sizeByte) (none-from-pose (nothing poseByte) (nothing withdrawByte) (nothing solveByte))
 
   -- ---- one call
 
@@ -322,24 +346,32 @@ module _ (t : State) (stream : List ℕ) (at : ℕ) where
 
         demand-reading : Reading stream at → CallDemand1 t stream at (call t stream at)
         unfolding commandRefusal read replyTo
-        demand-reading (no-command byte parsed begins z p s) =
-            demand-stopped (UnknownCommand byte) (comes-unknown stream at t byte begins z p s) (inr (inl refl)) (reads ∙ ap (read t stream at) parsed)
+        demand-reading (no-command byte parsed begins no-byte) =
+            demand-stopped (UnknownCommand byte) (comes-unknown stream at t byte begins no-byte) (inr (inl refl)) (reads ∙ ap (read t stream at) parsed)
         demand-reading (cut-short width parsed begins short) =
             demand-stopped (Truncated at) (comes-cut-short stream at t width begins short) (inr (inr (inl refl))) (reads ∙ ap (read t stream at) parsed)
         demand-reading (whole-size parsed begins fits) =
             let command = edit (size (operand stream at 1) (operand stream at 2) (operand stream at 3)) in
             demand-obeyed command sizeWidth (inl (begins, refl)) fits parsed (comes-commands-size begins _ (comes-size stream at t left))
             (λ passes comes.
-            demand-accepted comes (stateAfter t command) sizeWidth (inl begins) (inl (begins, refl)) fits (λ here. size-leaves t stream at)
-            (λ here. absurd (other-byte sizeByte poseByte (omega arith) begins here)))
+            demand-accepted comes (stateAfter t command) sizeWidth (inl begins) (inl (begins, refl)) fits (λ own. size-leaves t stream at)
+            (λ other. absurd (other-byte sizeByte poseByte (omega arith) begins other)) (λ other. absurd (other-byte sizeByte withdrawByte (omega arith) begins other)))
         demand-reading (whole-pose parsed begins fits) =
             let command = edit (place (operand stream at 1) (operand stream at 2) (offeredPose stream (at + 3))) in
             demand-obeyed command poseWidth (inr (inl (begins, refl))) fits parsed (comes-commands-pose begins _ (comes-pose stream at t left))
             (λ passes comes.
-            demand-accepted comes (stateAfter t command) poseWidth (inr begins) (inr (inl (begins, refl))) fits
-            (λ here. absurd (other-byte poseByte sizeByte (omega arith) begins here)) (λ here. pose-leaves t stream at usable sixteen passes))
+            demand-accepted comes (stateAfter t command) poseWidth (inr (inl begins)) (inr (inl (begins, refl))) fits
+            (λ other. absurd (other-byte poseByte sizeByte (omega arith) begins other)) (λ own. pose-leaves t stream at usable sixteen passes)
+            (λ other. absurd (other-byte poseByte withdrawByte (omega arith) begins other)))
+        demand-reading (whole-withdraw parsed begins fits) =
+            let command = edit (withdraw (operand stream at 1) (operand stream at 2)) in
+            demand-obeyed command withdrawWidth (inr (inr (inr (begins, refl)))) fits parsed (comes-commands-withdraw begins _ (comes-withdraw stream at t left))
+            (λ passes comes.
+            demand-accepted comes (stateAfter t command) withdrawWidth (inr (inr begins)) (inr (inr (inr (begins, refl)))) fits
+            (λ other. absurd (other-byte withdrawByte sizeByte (omega arith) begins other))
+            (λ other. absurd (other-byte withdrawByte poseByte (omega arith) begins other)) (λ own. withdraw-leaves t stream at usable sixteen passes))
         demand-reading (whole-solve parsed begins fits) =
-            demand-obeyed solve solveWidth (inr (inr (begins, refl))) fits parsed
+            demand-obeyed solve solveWidth (inr (inr (inl (begins, refl)))) fits parsed
             (comes-commands-solve begins _ (comes-solve t usable left stream at))
             (λ passes comes. demand-solved comes (stateAfter t solve) begins fits (solve-leaves t usable passes))
 

@@ -13,12 +13,12 @@ use lib.ListN.{length, getD}
 use lib.Dec.{T, leb, ltb}
 use lib.Ieee.{Float, binary64, ofBits, nan}
 use lib.Ieee.Scale.{finite}
-use borrow.Author.Tests.{ltb-true, ltb-false, leb-true, leb-false, eqb-true, eqb-false, not-true, not-false, lt-ltb, le-leb, eq-eqb, ne-eqb}
+use borrow.Author.Tests.{ltb-true, ltb-false, leb-true, eqb-true, eqb-false, not-true, not-false, lt-ltb, le-leb, eq-eqb, ne-eqb}
 use Rattle.arithmetic.specs.Pose.{poseAt, finitePose, flat}
 use Rattle.arithmetic.specs.declared.pose.Pose.{Pose}
 use Rattle.refusal.specs.Table.{refuseIf, orElse, firstOf}
 use Rattle.refusal.specs.declared.Refusal.{Refusal}
-use Rattle.refusal.specs.declared.Refusal.the-variants.{WrongLength, NotFinite, UnknownCommand, Truncated, OutsideRig, TooLong, NoSize, SizeAgain, HeldAlready}
+use Rattle.refusal.specs.declared.Refusal.the-variants.{WrongLength, NotFinite, UnknownCommand, Truncated, OutsideRig, TooLong, NoSize, SizeAgain, HeldAlready, NotHeld}
 use Rattle.lists.specs.Masks.{inMask}
 use Rattle.placing.specs.Grid.{Grid}
 use Rattle.extrinsics.specs.Outcome.{notFinite, unreached, emptyView, gridRefusal}
@@ -26,25 +26,27 @@ use Rattle.extrinsics.specs.Direct.{directGrid}
 use Rattle.inputs.specs.Inputs.{cellCount, sizeRefusal, countRefusal, lengthRefusal, markRefusal, inputRefusal}
 use Rattle.inputs.proofs.Answering.{refuseIf-none, AllNone, firstOf-none-all}
 use Rattle.claims_direct.specs.Demand1.{gridChecks}
-use Rattle.claims_direct.proofs.Deciding.{Carried}
+use Rattle.claims_direct.specs.Deciding.{naming}
+use Rattle.claims_direct.proofs.Deciding.{Carries, Carried}
 use Rattle.claims_direct.proofs.Carrying.{refuseIf-carries, refuseIf-plain}
 use Rattle.claims_direct.proofs.DirectWords.{sizeFound, sizes-carried, direct-carried}
 use Rattle.claims_direct.proofs.FinitePoses.{finitePose-numbers}
 use Rattle.claims_direct.proofs.GridRefusals.{orElse-none}
-use Rattle.command.specs.Command.{Edit, size, place, Command, edit, solve, complete, broken, unknown, sizeByte, poseByte, solveByte, sizeWidth, poseWidth, solveWidth, wordAt, doubleAt, offeredPose, widthOf, parse}
+use Rattle.command.specs.Command.{size, place, withdraw, edit, solve, complete, broken, unknown, sizeByte, poseByte, solveByte, withdrawByte, sizeWidth, poseWidth, solveWidth, withdrawWidth, wordAt, doubleAt, offeredPose, widthOf, parse}
 use Rattle.command.specs.Inner.Parts.{widthOrZero}
-use Rattle.command.proofs.Decoding.{parse-foreign, parse-short, parse-size, parse-place, parse-solve}
+use Rattle.command.proofs.Decoding.{parse-foreign, parse-short, parse-size, parse-place, parse-withdraw, parse-solve}
 use Rattle.session_record.specs.Session.{hasSize, sessionGrid, namedCell, possible}
 use Rattle.session.specs.Commands.{editRefusal, editSession, commandRefusal, sessionAfter, Left, left-fresh, left-after}
 use Rattle.session_record.specs.declared.Session.{Session}
 use Rattle.session.specs.Call.{maxStream, State, callRefusal, unusable}
 use Rattle.claims_streams.specs.Stream.{Usable}
 use Rattle.claims_streams.specs.DirectInputs.{countsOf, marksOf, floatsOf}
-use Rattle.claims_streams.specs.CallDemand1.{lowByteFirst, Begins, BeginsOfWidth, operand, floatOffered, OffersNotFinite, acceptedSizes, NoSizeYet, SizeBefore, sizeCommandChecks, poseCommandChecks, solveCommandChecks, CannotBeUsed, firstChecks, readingChecks}
+use Rattle.claims_streams.specs.CallDemand1.{lowByteFirst, Begins, BeginsOfWidth, operand, floatOffered, OffersNotFinite, acceptedSizes, NoSizeYet, SizeBefore, sizeCommandChecks, poseCommandChecks, withdrawCommandChecks, solveCommandChecks, CannotBeUsed, firstChecks, readingChecks}
 use Rattle.claims_streams.proofs.Accepting.{solve-checks}
 use Rattle.claims_streams.proofs.Edits.Law.{ViewsAfter}
 use Rattle.claims_streams.proofs.Edits.Size.{size-checks}
 use Rattle.claims_streams.proofs.Edits.Pose.{placeChecks, place-checks}
+use Rattle.claims_streams.proofs.Edits.Withdraw.{withdrawChecks, withdraw-checks}
 use Rattle.claims_streams.proofs.Edits.All.{edit-law}
 use Rattle.claims_streams.proofs.DecidingParts.{Comes, some-not-none, comes-carried, carries-none, carries-some}
 use Rattle.claims_streams.proofs.Records.{possible-left}
@@ -138,14 +140,20 @@ usable-of-call t stream at e =
 -- ---- 10 and 11: what stands before the end
 
 module _ (stream : List ℕ) (at : ℕ) where
-  -- What is read there, as the papers have it: no command, one that the stream ends within, or a whole Size, Pose or Solve.
+  -- A byte that begins no command.
+  abbrev pub Unknown : ℕ → Type 0
+  Unknown byte = (byte ≢ sizeByte) × (byte ≢ poseByte) × (byte ≢ solveByte) × (byte ≢ withdrawByte)
+
+  -- What is read there, as the papers have it: no command, one that the stream ends within, or a whole Size, Pose, Withdraw or Solve.
   pub data Reading : Type 0 where
-    no-command : (byte : ℕ) → parse stream at ≡ unknown byte → Begins stream at byte → byte ≢ sizeByte → byte ≢ poseByte → byte ≢ solveByte → Reading
+    no-command : (byte : ℕ) → parse stream at ≡ unknown byte → Begins stream at byte → Unknown byte → Reading
     cut-short : (width : ℕ) → parse stream at ≡ broken → BeginsOfWidth stream at width → length stream < at + width → Reading
     whole-size : parse stream at ≡ complete (edit (size (operand stream at 1) (operand stream at 2) (operand stream at 3))) sizeWidth
         → Begins stream at sizeByte → at + sizeWidth ≤ length stream → Reading
     whole-pose : parse stream at ≡ complete (edit (place (operand stream at 1) (operand stream at 2) (offeredPose stream (at + 3)))) poseWidth
         → Begins stream at poseByte → at + poseWidth ≤ length stream → Reading
+    whole-withdraw : parse stream at ≡ complete (edit (withdraw (operand stream at 1) (operand stream at 2))) withdrawWidth
+        → Begins stream at withdrawByte → at + withdrawWidth ≤ length stream → Reading
     whole-solve : parse stream at ≡ complete solve solveWidth → Begins stream at solveByte → at + solveWidth ≤ length stream → Reading
 
   module _ (before-end : at < length stream) where
@@ -166,52 +174,57 @@ module _ (stream : List ℕ) (at : ℕ) where
 
     pub reading : Reading
     unfolding widthOf
-    reading = go (ℕ-discrete byte sizeByte) (ℕ-discrete byte poseByte) (ℕ-discrete byte solveByte)
+    reading = go (ℕ-discrete byte sizeByte) (ℕ-discrete byte poseByte) (ℕ-discrete byte solveByte) (ℕ-discrete byte withdrawByte)
       where
-        go : Dec (byte ≡ sizeByte) → Dec (byte ≡ poseByte) → Dec (byte ≡ solveByte) → Reading
-        go (yes e) p s =
+        go : Dec (byte ≡ sizeByte) → Dec (byte ≡ poseByte) → Dec (byte ≡ solveByte) → Dec (byte ≡ withdrawByte) → Reading
+        go (yes e) p s t =
             read-whole sizeWidth (rw (eq-eqb _ _ e) refl) (omega arith) (inl ((before-end, e), refl))
             (λ room fits. whole-size (parse-size stream at e room .0) (before-end, e) fits)
-        go (no z) (yes e) s =
+        go (no z) (yes e) s t =
             read-whole poseWidth (rw (ne-eqb byte sizeByte z, eq-eqb _ _ e) refl) (omega arith) (inr (inl ((before-end, e), refl)))
             (λ room fits. whole-pose (parse-place stream at z e room .0) (before-end, e) fits)
-        go (no z) (no p) (yes e) =
+        go (no z) (no p) (yes e) t =
             let found : widthOf byte ≡ some solveWidth = rw (ne-eqb byte sizeByte z, ne-eqb byte poseByte p, eq-eqb _ _ e) refl in
-            read-whole solveWidth found (omega arith) (inr (inr ((before-end, e), refl)))
-            (λ room fits. whole-solve (parse-solve stream at z p (λ none. omega (arith, ap widthOrZero found)) room) (before-end, e) fits)
-        go (no z) (no p) (no s) =
-            no-command byte (parse-foreign stream at (rw (ne-eqb byte sizeByte z, ne-eqb byte poseByte p, ne-eqb byte solveByte s) refl)) (before-end, refl) z p s
+            read-whole solveWidth found (omega arith) (inr (inr (inl ((before-end, e), refl))))
+            (λ room fits. whole-solve (parse-solve stream at z p (λ w. omega (arith, e)) (λ none. omega (arith, ap widthOrZero found)) room) (before-end, e) fits)
+        go (no z) (no p) (no s) (yes e) =
+            read-whole withdrawWidth (rw e refl) (omega arith) (inr (inr (inr ((before-end, e), refl))))
+            (λ room fits. whole-withdraw (parse-withdraw stream at e room .0) (before-end, e) fits)
+        go (no z) (no p) (no s) (no t) =
+            no-command byte
+            (parse-foreign stream at (rw (ne-eqb byte sizeByte z, ne-eqb byte poseByte p, ne-eqb byte solveByte s, ne-eqb byte withdrawByte t) refl))
+            (before-end, refl) (z, p, s, t)
+
+  -- The width that the words give is the table's.
+  width-of-words : (width : ℕ) → BeginsOfWidth stream at width → widthOf (getD stream at 0) ≡ some width
+  unfolding widthOf
+  width-of-words w (inl ((_, b), e)) = rw (b, e) refl
+  width-of-words w (inr (inl ((_, b), e))) = rw (b, e) refl
+  width-of-words w (inr (inr (inl ((_, b), e)))) = rw (b, e) refl
+  width-of-words w (inr (inr (inr ((_, b), e)))) = rw (b, e) refl
 
   one-width : (width width′ : ℕ) → BeginsOfWidth stream at width → BeginsOfWidth stream at width′ → width ≡ width′
-  one-width w w′ (inl ((_, b), e)) (inl ((_, b′), e′)) = omega arith
-  one-width w w′ (inl ((_, b), e)) (inr (inl ((_, b′), e′))) = absurd (omega arith)
-  one-width w w′ (inl ((_, b), e)) (inr (inr ((_, b′), e′))) = absurd (omega arith)
-  one-width w w′ (inr (inl ((_, b), e))) (inl ((_, b′), e′)) = absurd (omega arith)
-  one-width w w′ (inr (inl ((_, b), e))) (inr (inl ((_, b′), e′))) = omega arith
-  one-width w w′ (inr (inl ((_, b), e))) (inr (inr ((_, b′), e′))) = absurd (omega arith)
-  one-width w w′ (inr (inr ((_, b), e))) (inl ((_, b′), e′)) = absurd (omega arith)
-  one-width w w′ (inr (inr ((_, b), e))) (inr (inl ((_, b′), e′))) = absurd (omega arith)
-  one-width w w′ (inr (inr ((_, b), e))) (inr (inr ((_, b′), e′))) = omega arith
+  one-width w w′ begins begins′ = ap widthOrZero (sym (width-of-words w begins) ∙ width-of-words w′ begins′)
 
-  known-byte : (width byte : ℕ) → BeginsOfWidth stream at width → Begins stream at byte → byte ≢ sizeByte → byte ≢ poseByte → byte ≢ solveByte → ⊥
-  known-byte width byte (inl ((_, b), _)) (_, e) z p s = z (sym e ∙ b)
-  known-byte width byte (inr (inl ((_, b), _))) (_, e) z p s = p (sym e ∙ b)
-  known-byte width byte (inr (inr ((_, b), _))) (_, e) z p s = s (sym e ∙ b)
+  known-byte : (width byte : ℕ) → BeginsOfWidth stream at width → Begins stream at byte → Unknown byte → ⊥
+  known-byte width byte (inl ((_, b), _)) (_, e) (z, p, s, t) = z (sym e ∙ b)
+  known-byte width byte (inr (inl ((_, b), _))) (_, e) (z, p, s, t) = p (sym e ∙ b)
+  known-byte width byte (inr (inr (inl ((_, b), _)))) (_, e) (z, p, s, t) = s (sym e ∙ b)
+  known-byte width byte (inr (inr (inr ((_, b), _)))) (_, e) (z, p, s, t) = t (sym e ∙ b)
 
   module _ (t : State) where
-    pub comes-unknown : (byte : ℕ) → Begins stream at byte → byte ≢ sizeByte → byte ≢ poseByte → byte ≢ solveByte
-        → Comes (readingChecks t stream at) (some (UnknownCommand byte))
+    pub comes-unknown : (byte : ℕ) → Begins stream at byte → Unknown byte → Comes (readingChecks t stream at) (some (UnknownCommand byte))
     unfolding firstOf orElse
-    comes-unknown byte begins z p s =
+    comes-unknown byte begins (z, p, s, w) =
         comes-carried (readingChecks t stream at) (some (UnknownCommand byte) ∷ none ∷ [])
-        (carries-some _ (UnknownCommand byte) refl (begins, z, p, s) (λ d says. sym (begins .1) ∙ says .0 .1), λ e. absurd (some-not-none e))
+        (carries-some _ (UnknownCommand byte) refl (begins, z, p, s, w) (λ d says. sym (begins .1) ∙ says .0 .1), λ e. absurd (some-not-none e))
 
     pub comes-cut-short : (width : ℕ) → BeginsOfWidth stream at width → length stream < at + width
         → Comes (readingChecks t stream at) (some (Truncated at))
     unfolding firstOf orElse
     comes-cut-short width begins short =
         comes-carried (readingChecks t stream at) (none ∷ some (Truncated at) ∷ []) (
-          carries-none _ (λ d says. known-byte width d begins (says .0) (says .1) (says .2) (says .3)),
+          carries-none _ (λ d says. known-byte width d begins (says .0) (says .1, says .2, says .3, says .4)),
           λ e. (carries-some _ (Truncated at) refl ((width, begins, short), refl) (λ d says. sym (says .1)), λ e₁. tt),
         )
 
@@ -219,7 +232,7 @@ module _ (stream : List ℕ) (at : ℕ) where
     unfolding firstOf orElse
     comes-whole width begins fits =
         comes-carried (readingChecks t stream at) (none ∷ none ∷ []) (
-          carries-none _ (λ d says. known-byte width d begins (says .0) (says .1) (says .2) (says .3)),
+          carries-none _ (λ d says. known-byte width d begins (says .0) (says .1, says .2, says .3, says .4)),
           λ e. (
             carries-none _ (λ d says. let (w, other, short) = says .0 in let same = one-width width w begins other in omega arith),
             λ e₁. tt,
@@ -238,7 +251,8 @@ module _ (stream : List ℕ) (at : ℕ) where
         nothing-begins : (w : ℕ) → BeginsOfWidth stream at w → ⊥
         nothing-begins w (inl ((l, _), _)) = omega arith
         nothing-begins w (inr (inl ((l, _), _))) = omega arith
-        nothing-begins w (inr (inr ((l, _), _))) = omega arith
+        nothing-begins w (inr (inr (inl ((l, _), _)))) = omega arith
+        nothing-begins w (inr (inr (inr ((l, _), _)))) = omega arith
 
 -- ---- 21 and 22: by the commands that left the record
 
@@ -332,6 +346,16 @@ poseAt-own-flat : (p : Pose) → poseAt (flat p) 0 ≡ p
 unfolding poseAt
 poseAt-own-flat p = refl
 
+-- 12, of a Pose and of a Withdraw.
+outside-carries : (s : Session) (view camera : ℕ)
+    → Carries (naming 12 (λ d. ((s .views ≤ view) ⊎ (s .cameras ≤ camera)) × (d ≡ view * 256 + camera)))
+    (refuseIf (leb (s .views) view || leb (s .cameras) camera) (OutsideRig (namedCell view camera)))
+outside-carries s view camera =
+    refuseIf-carries (leb (s .views) view || leb (s .cameras) camera) (OutsideRig (namedCell view camera))
+    (λ d. ((s .views ≤ view) ⊎ (s .cameras ≤ camera)) × (d ≡ view * 256 + camera))
+    (λ e. (⊎-elim (λ v. inl (leb-true _ _ v)) (λ c. inr (leb-true _ _ c)) (or-true _ _ e), refl))
+    (λ d (words, same). (true-or _ _ (⊎-elim (λ v. inl (le-leb _ _ v)) (λ c. inr (le-leb _ _ c)) words), sym same))
+
 module _ (stream : List ℕ) (at : ℕ) where
   abbrev offer : Pose
   offer = offeredPose stream (at + 3)
@@ -356,16 +380,16 @@ module _ (stream : List ℕ) (at : ℕ) where
     abbrev camera : ℕ
     camera = operand stream at 2
 
+    abbrev held : Bool
+    held = inMask (getD (t .session .masks) camera 0) view
+
     pub comes-pose : Comes (poseCommandChecks t stream at) (editRefusal (t .session) (place view camera offer))
     comes-pose =
         subst (Comes (poseCommandChecks t stream at)) (sym (place-checks (t .session) view camera offer))
         (comes-carried (poseCommandChecks t stream at) (placeChecks (t .session) view camera offer) (
           refuseIf-plain (not (hasSize (t .session))) NoSize (NoSizeYet (t .session)) refl (no-size-yet (t .session) left),
           λ e₁. (
-            refuseIf-carries outside (OutsideRig (namedCell view camera))
-                (λ d. ((t .session .views ≤ view) ⊎ (t .session .cameras ≤ camera)) × (d ≡ view * 256 + camera))
-                (λ e. (⊎-elim (λ v. inl (leb-true _ _ v)) (λ c. inr (leb-true _ _ c)) (or-true _ _ e), refl))
-                (λ d (words, same). (true-or _ _ (⊎-elim (λ v. inl (le-leb _ _ v)) (λ c. inr (le-leb _ _ c)) words), sym same)),
+            outside-carries (t .session) view camera,
             λ e₂. (
               refuseIf-carries held (HeldAlready (namedCell view camera)) (λ d. T held × (d ≡ view * 256 + camera))
                   (λ e. (true-T held e, refl)) (λ d (words, same). (T-true held words, sym same)),
@@ -378,12 +402,23 @@ module _ (stream : List ℕ) (at : ℕ) where
             ),
           ),
         ))
-      where
-        outside : Bool
-        outside = leb (t .session .views) view || leb (t .session .cameras) camera
 
-        held : Bool
-        held = inMask (getD (t .session .masks) camera 0) view
+    -- ---- Withdraw: 21, 12, 24
+
+    pub comes-withdraw : Comes (withdrawCommandChecks t stream at) (editRefusal (t .session) (withdraw view camera))
+    comes-withdraw =
+        subst (Comes (withdrawCommandChecks t stream at)) (sym (withdraw-checks (t .session) view camera))
+        (comes-carried (withdrawCommandChecks t stream at) (withdrawChecks (t .session) view camera) (
+          refuseIf-plain (not (hasSize (t .session))) NoSize (NoSizeYet (t .session)) refl (no-size-yet (t .session) left),
+          λ e₁. (
+            outside-carries (t .session) view camera,
+            λ e₂. (
+              refuseIf-carries (not held) (NotHeld (namedCell view camera)) (λ d. (held ≡ false) × (d ≡ view * 256 + camera))
+                  (λ e. (not-true _ e, refl)) (λ d (words, same). (ap not words, sym same)),
+              λ e₃. tt,
+            ),
+          ),
+        ))
 
 -- ---- Solve: 21, then 7 to 9
 

@@ -1,8 +1,9 @@
--- The seven floats of a cell in the buffer: what an accepted Pose writes there, and that cells do not overlap. Assumes nothing.
-use Prim.Native.Nat.{ℕ, _+_, _-_, _*_, _≤_, _<_}
+-- The seven floats of a cell in the buffer: what an accepted Pose writes there, that every place is in a cell, and that cells do not overlap. Assumes
+-- nothing.
+use Prim.Native.Nat.{ℕ, zero, suc, _+_, _-_, _*_, _/_, _%_, _≤_, _<_}
 use native.Mathlib.Decide.{decLt}
 use native.Mathlib.Omega.{arith}
-use mathlib.Core.Path.{_≡_, sym, ap, _∙_}
+use mathlib.Core.Path.{_≡_, refl, sym, ap, _∙_}
 use mathlib.Core.Logic.{_⊎_, inl, inr}
 use mathlib.Core.List.{List, _++_}
 use lib.ListN.{length, take, drop, getD, List·getD-append}
@@ -61,6 +62,26 @@ poseAt-agree l l′ at same =
   where
     first : getD l at nan ≡ getD l′ at nan
     first = ap (λ (i : ℕ). getD l i nan) (omega arith) ∙ same 0 (omega arith) ∙ ap (λ (i : ℕ). getD l′ i nan) (omega arith)
+
+-- Number k of the pose is the float that stands there.
+getD-poseAt : (l : List Float) (at k : ℕ) → k < 7 → getD (flat (poseAt l at)) k nan ≡ getD l (at + k) nan
+unfolding poseAt
+getD-poseAt l at zero h = ap (λ (i : ℕ). getD l i nan) (omega arith)
+getD-poseAt l at (suc zero) h = refl
+getD-poseAt l at (suc (suc zero)) h = refl
+getD-poseAt l at (suc (suc (suc zero))) h = refl
+getD-poseAt l at (suc (suc (suc (suc zero)))) h = refl
+getD-poseAt l at (suc (suc (suc (suc (suc zero))))) h = refl
+getD-poseAt l at (suc (suc (suc (suc (suc (suc zero)))))) h = refl
+getD-poseAt l at (suc (suc (suc (suc (suc (suc (suc k))))))) h = absurd (omega arith)
+
+-- And the same pose is the same seven floats.
+pub floats-agree : (l l′ : List Float) (at : ℕ) → poseAt l at ≡ poseAt l′ at → (k : ℕ) → k < 7 → getD l (at + k) nan ≡ getD l′ (at + k) nan
+floats-agree l l′ at same k h = sym (getD-poseAt l at k h) ∙ ap (λ (p : Pose). getD (flat p) k nan) same ∙ getD-poseAt l′ at k h
+
+-- Every place of the buffer is one of the seven of a cell.
+pub cell-of-place : (i : ℕ) → i ≡ cellStart (i / 7 / 16) (i / 7 % 16) + i % 7
+cell-of-place i = omega arith
 
 -- A cell inside the limits has its seven numbers in the buffer.
 pub cell-inside : (v c : ℕ) → v < maxViews → c < maxCameras → cellStart v c + 7 ≤ bufferLength

@@ -2,7 +2,6 @@
 -- stream `held-after-stream`. By induction on the commands, one step of it being the law of an edit. Nothing is written where a pose is held:
 -- `written-into-empty`. Assumes nothing.
 use Prim.Native.Nat.{ℕ, _+_, _≤_, _<_}
-use native.Mathlib.Omega.{arith}
 use mathlib.Core.Path.{_≡_, refl, sym, ap, subst, _∙_}
 use mathlib.Core.Bool.{Bool, true, false, _||_, true≢false}
 use mathlib.Core.Option.{Option, none, some}
@@ -18,9 +17,9 @@ use Rattle.lists.proofs.Tests.{or-false}
 use Rattle.command.specs.Command.{Edit, Command, edit, solve}
 use Rattle.session_record.specs.Session.{fresh, bufferLength, cellStart}
 use Rattle.session.specs.Commands.{editRefusal, commandRefusal, sessionAfter, bufferAfter}
-use Rattle.session.specs.Call.{maxStream, firstLength, secondLength, State, state, stateAfter}
+use Rattle.session.specs.Call.{maxStream, firstLength, secondLength, State, state, replyTo, stateAfter}
 use Rattle.claims_streams.specs.Stream.{contentsOf, Answer, answerTo, stateAfterAll, lastState, calls, Usable}
-use Rattle.claims_streams.specs.Held.{heldFrom, heldAfter, writes, written, editsIn, acceptedEdits, HoldsCell, HoldsExactly}
+use Rattle.claims_streams.specs.Held.{heldFrom, heldAfter, writes, written, editsIn, acceptedIn, acceptedEdits, HoldsCell, HoldsExactly}
 use Rattle.claims_streams.proofs.Sound.{Sound, sound-fresh, sound-of-possible, possible-of-sound}
 use Rattle.claims_streams.proofs.Edits.Law.{FiniteCell}
 use Rattle.claims_streams.proofs.Edits.All.{edit-law}
@@ -29,16 +28,24 @@ use Rattle.claims_streams.proofs.Usable.{usable-answer, usable-after-al
 
 -- ---- the accepted edits, command by command
 
+acceptedIn-reply : (command : Command) → acceptedIn command (replyTo command) ≡ editsIn command
+unfolding acceptedIn editsIn replyTo
+acceptedIn-reply (edit change) = refl
+acceptedIn-reply solve = refl
+
 module _ (t : State) (command : Command) (later : List Command) where
   acceptedEdits-refused : (r : Refusal) → commandRefusal (t .session) (t .buffer) command ≡ some r
       → acceptedEdits t (command ∷ later) ≡ acceptedEdits (answerTo t command .after) later
-  unfolding acceptedEdits
-  acceptedEdits-refused r e = cc (answerTo-refused t command r e)
+  unfolding acceptedEdits acceptedIn
+  acceptedEdits-refused r e =
+      ap (λ (a : Answer). acceptedIn command (a .reply) ++ acceptedEdits (answerTo t command .after) later) (answerTo-refused t command r e)
 
   acceptedEdits-accepted : commandRefusal (t .session) (t .buffer) command ≡ none
       → acceptedEdits t (command ∷ later) ≡ editsIn command ++ acceptedEdits (answerTo t command .after) later
   unfolding acceptedEdits
-  acceptedEdits-accepted e = cc (answerTo-accepted t command e)
+  acceptedEdits-accepted e =
+      ap (λ (a : Answer). acceptedIn command (a .reply) ++ acceptedEdits (answerTo t command .after) later) (answerTo-accepted t command e)
+      ∙ ap (λ (l : List Edit). l ++ acceptedEdits (answerTo t command .after) later) (acceptedIn-reply command)
 
 heldFrom-edits : (o : Option Pose) (command : Command) (later : List Edit) (v c : ℕ)
     → heldFrom o (editsIn command ++ later) v c ≡ heldFrom (heldFrom o (editsIn command) v c) later v c
@@ -200,7 +207,7 @@ module _ (buffer first : List Float) (second : List ℕ) (buffer-fits : length b
   pub finite-held : (commands : List Command) (v c : ℕ) → FiniteCell (heldAfter (acceptedEdits start commands) v c)
   finite-held commands v c = finite-all commands start usable-start v c none tt
 
-  -- An edit that is accepted after commands writes to no cell that then holds a pose: none is ever held twice.
+  -- An edit that is accepted after commands writes to no cell that then holds a pose: no pose is written over.
   pub written-into-empty : (commands : List Command) (change : Edit) → editRefusal (stateAfterAll start commands .session) change ≡ none
       → (v c : ℕ) → c < maxCameras → writes change v c ≡ true → heldAfter (acceptedEdits start commands) v c ≡ none
   written-into-empty commands change e v c h names =

@@ -1,4 +1,4 @@
--- The theorems on records, streams, held poses, Solve and one call, and the laws they rest on.
+-- The theorems on records, streams, held poses, states alike, Solve and one call, and the laws they rest on.
 pub mod Accepting
 pub mod Sound
 pub mod Cells
@@ -9,6 +9,8 @@ pub mod Contents
 pub mod Streams
 pub mod Striking
 pub mod Held
+pub mod AlikeEdits
+pub mod Alike
 pub mod SolveDirect
 pub mod RustGrids
 pub mod SolveDemands
@@ -18,3 +20,5 @@ pub mod DecidingParts
 pub mod CallWords
 pub mod AcceptedCalls
 pub mod CallDemand1
+pub mod LastNaming
+pub mod TakenBack

@@ -1,5 +1,5 @@
--- Demand 1 of the papers for one call of the session, in document 01's own words, over the bytes of the stream: which number refuses it, with which
--- detail, and in which order; when it is the end, accepted or solved; what a refusal, an accepted Size, an accepted Pose and a solved call leave; and
+-- Demand 1 of the papers for one call of the session, in the papers' own words, over the bytes of the stream: which number refuses it, with which
+-- detail, and in which order; when it is the end, accepted or solved; what a refusal, an accepted Size, Pose or Withdraw and a solved call leave; and
 -- where the next command begins. Rests on the checks of `Deciding` and `Demand1`, on `Left`, which says by the commands themselves what they leave,
 -- and on the direct call of `DirectInputs`.
 use Prim.Native.Nat.{ℕ, zero, suc, _+_, _*_, _≤_, _<_}
@@ -16,7 +16,7 @@ use Rattle.refusal.specs.declared.Refusal.{Refusal}
 use Rattle.lists.specs.Masks.{inMask}
 use Rattle.claims_direct.specs.Deciding.{Check, naming, plain, Decides, AllSilent}
 use Rattle.claims_direct.specs.Demand1.{sizeChecks, gridChecks, BeyondUnchanged}
-use Rattle.command.specs.Command.{Edit, size, place, edit, solve, sizeByte, poseByte, solveByte, sizeWidth, poseWidth, solveWidth}
+use Rattle.command.specs.Command.{Edit, size, place, withdraw, edit, solve, sizeByte, poseByte, solveByte, withdrawByte, sizeWidth, poseWidth, solveWidth, withdrawWidth}
 use Rattle.session_record.specs.Session.{bufferLength}
 use Rattle.session.specs.Commands.{Left, left-fresh, left-after}
 use Rattle.session.specs.Call.{maxStream, firstLength, secondLength, State, Result}
@@ -41,10 +41,12 @@ module _ (stream : List ℕ) (at : ℕ) where
   abbrev pub Begins : ℕ → Type 0
   Begins byte = (at < length stream) × (getD stream at 0 ≡ byte)
 
-  -- "0x01 Size: views, cameras, reference; one byte each. 0x02 Pose: view, camera, one byte each, then seven floats. 0x03 Solve: no operands."
+  -- "0x01 Size: views, cameras, reference; one byte each. 0x02 Pose: view, camera, one byte each, then seven floats. 0x03 Solve: no operands." "Command
+  -- 0x04, with view and camera bytes".
   abbrev pub BeginsOfWidth : ℕ → Type 0
   BeginsOfWidth width =
-      (Begins sizeByte × (width ≡ sizeWidth)) ⊎ ((Begins poseByte × (width ≡ poseWidth)) ⊎ (Begins solveByte × (width ≡ solveWidth)))
+      (Begins sizeByte × (width ≡ sizeWidth))
+      ⊎ ((Begins poseByte × (width ≡ poseWidth)) ⊎ ((Begins solveByte × (width ≡ solveWidth)) ⊎ (Begins withdrawByte × (width ≡ withdrawWidth))))
 
   abbrev pub operand : ℕ → ℕ
   operand i = getD stream (at + i) 0
@@ -67,6 +69,7 @@ module _ (stream : List ℕ) (at : ℕ) where
 unfoldable pub sizesIn : Edit → ℕ
 sizesIn (size v c r) = 1
 sizesIn (place v c p) = 0
+sizesIn (withdraw v c) = 0
 
 -- How many of the accepted commands that left a record were Size.
 unfoldable pub acceptedSizes : {s : Session} → Left s → ℕ
@@ -88,18 +91,34 @@ module _ (t : State) (stream : List ℕ) (at : ℕ) where
   sizeCommandChecks =
       plain 22 (SizeBefore (t .session)) ∷ sizeChecks (operand stream at 1) (operand stream at 2) (operand stream at 3)
 
-  -- 21: "Pose or Solve before an accepted Size." "Pose checks 12, 23, 7": 12 is "Pose names a view or camera outside the sizes; detail is view × 256 +
-  -- camera", 23 "Pose for a cell already held; detail as for 12", 7 "a non-finite number in a [..] offered pose; detail is the lowest such cell. A
-  -- cell's index is view × cameras + camera."
+  -- 12: "Pose names a view or camera outside the sizes; detail is view × 256 + camera". Of 0x04 too, by the order that document 02 gives it.
+  abbrev pub namesOutside : Check
+  namesOutside =
+      let view = operand stream at 1 in
+      let camera = operand stream at 2 in
+      naming 12 (λ d. ((t .session .views ≤ view) ⊎ (t .session .cameras ≤ camera)) × (d ≡ view * 256 + camera))
+
+  -- 21: "Pose or Solve before an accepted Size." "Pose checks 12, 23, 7": 23 is "Pose for a cell already held; detail as for 12", 7 "a non-finite number in a
+  -- [..] offered pose; detail is the lowest such cell. A cell's index is view × cameras + camera."
   abbrev pub poseCommandChecks : List Check
   poseCommandChecks =
       let view = operand stream at 1 in
       let camera = operand stream at 2 in
       plain 21 (NoSizeYet (t .session))
-      ∷ naming 12 (λ d. ((t .session .views ≤ view) ⊎ (t .session .cameras ≤ camera)) × (d ≡ view * 256 + camera))
+      ∷ namesOutside
       ∷ naming 23 (λ d. T (inMask (getD (t .session .masks) camera 0) view) × (d ≡ view * 256 + camera))
       ∷ naming 7 (λ d. OffersNotFinite stream at × (d ≡ view * t .session .cameras + camera))
       ∷ []
+
+  -- "Refusal 24: the cell holds no pose; detail as for 12. Order for 0x04: 10, 11, 21, 12, 24."
+  abbrev pub namesEmpty : Check
+  namesEmpty =
+      let view = operand stream at 1 in
+      let camera = operand stream at 2 in
+      naming 24 (λ d. (inMask (getD (t .session .masks) camera 0) view ≡ false) × (d ≡ view * 256 + camera))
+
+  abbrev pub withdrawCommandChecks : List Check
+  withdrawCommandChecks = plain 21 (NoSizeYet (t .session)) ∷ namesOutside ∷ namesEmpty ∷ []
 
   -- "Solve checks 7, 8, 9", "as the direct call would on the grid that masks and buffer hold".
   abbrev pub solveCommandChecks : List Check
@@ -129,15 +148,16 @@ module _ (t : State) (stream : List ℕ) (at : ℕ) where
   -- "One command: 10, 11": 10 is "unknown command byte; detail is that byte", 11 "the stream ends within a command; detail is the command's offset."
   abbrev pub readingChecks : List Check
   readingChecks =
-      naming 10 (λ d. Begins stream at d × (d ≢ sizeByte) × (d ≢ poseByte) × (d ≢ solveByte))
+      naming 10 (λ d. Begins stream at d × (d ≢ sizeByte) × (d ≢ poseByte) × (d ≢ solveByte) × (d ≢ withdrawByte))
       ∷ naming 11 (λ d. ((width : ℕ) × BeginsOfWidth stream at width × (length stream < at + width)) × (d ≡ at))
       ∷ []
 
-  -- "then 21 or 22. After that, Size checks [..]; Pose checks [..]; Solve checks [..]."
+  -- "then 21 or 22. After that, Size checks [..]; Pose checks [..]; Solve checks [..]." Of 0x04 document 02 says the order.
   abbrev pub commandChecks : List Check
   commandChecks =
       when (Begins stream at sizeByte) (sizeCommandChecks t stream at)
-      ++ (when (Begins stream at poseByte) (poseCommandChecks t stream at) ++ when (Begins stream at solveByte) (solveCommandChecks t stream at))
+      ++ (when (Begins stream at poseByte) (poseCommandChecks t stream at)
+      ++ (when (Begins stream at withdrawByte) (withdrawCommandChecks t stream at) ++ when (Begins stream at solveByte) (solveCommandChecks t stream at)))
 
   abbrev pub callChecks : List Check
   callChecks = firstChecks ++ (readingChecks ++ commandChecks)
@@ -154,18 +174,35 @@ pub record SizeLeaves (t : State) (stream : List ℕ) (at : ℕ) (t′ : State) 
   pub same-first : t′ .first ≡ t .first
   pub same-second : t′ .second ≡ t .second
 
+-- Every bit but that of the cell named is as it was.
+abbrev pub OtherBits : State → List ℕ → ℕ → State → Type 0
+OtherBits t stream at t′ =
+    (v c : ℕ) → (v ≡ operand stream at 1 → c ≡ operand stream at 2 → ⊥) → inMask (getD (t′ .session .masks) c 0) v ≡ inMask (getD (t .session .masks) c 0) v
+
 -- "0x02 Pose: view, camera, one byte each, then seven floats." Sizes, reference and both answers stay.
 pub record PoseLeaves (t : State) (stream : List ℕ) (at : ℕ) (t′ : State) : Type 0 where
   -- "bit v is set when view v holds a pose of that camera": that of the cell named, and every other bit is as it was.
   pub bit-set : T (inMask (getD (t′ .session .masks) (operand stream at 2) 0) (operand stream at 1))
-  pub other-bits : (v c : ℕ) → (v ≡ operand stream at 1 → c ≡ operand stream at 2 → ⊥)
-      → inMask (getD (t′ .session .masks) c 0) v ≡ inMask (getD (t .session .masks) c 0) v
+  pub other-bits : OtherBits t stream at t′
   pub mask-count : length (t′ .session .masks) ≡ length (t .session .masks)
   -- The seven floats of the stream, in their order, are the cell's seven.
   pub seven-written : (k : ℕ) → k < 7 → getD (t′ .buffer) (namedStart stream at + k) nan ≡ floatOffered stream at k
   -- "an accepted Pose writes those seven only"
   pub others-kept : (i : ℕ) → (i < namedStart stream at) ⊎ (namedStart stream at + 7 ≤ i) → getD (t′ .buffer) i nan ≡ getD (t .buffer) i nan
   pub buffer-length : length (t′ .buffer) ≡ length (t .buffer)
+  pub same-views : t′ .session .views ≡ t .session .views
+  pub same-cameras : t′ .session .cameras ≡ t .session .cameras
+  pub same-reference : t′ .session .reference ≡ t .session .reference
+  pub same-first : t′ .first ≡ t .first
+  pub same-second : t′ .second ≡ t .second
+
+-- "Command 0x04, with view and camera bytes, withdraws it. Whenever accepted, it empties that cell alone and writes no float". Sizes, reference and both
+-- answers stay.
+pub record WithdrawLeaves (t : State) (stream : List ℕ) (at : ℕ) (t′ : State) : Type 0 where
+  pub bit-clear : inMask (getD (t′ .session .masks) (operand stream at 2) 0) (operand stream at 1) ≡ false
+  pub other-bits : OtherBits t stream at t′
+  pub mask-count : length (t′ .session .masks) ≡ length (t .session .masks)
+  pub same-buffer : t′ .buffer ≡ t .buffer
   pub same-views : t′ .session .views ≡ t .session .views
   pub same-cameras : t′ .session .cameras ≡ t .session .cameras
   pub same-reference : t′ .session .reference ≡ t .session .reference
@@ -195,7 +232,8 @@ pub record CallDemand1 (t : State) (stream : List ℕ) (at : ℕ) (r : Result) :
   pub refused-exactly : (n d : ℕ) → RefusedWith (r .reply) n d ↔ Decides (callChecks t stream at) n d
   -- Every other call is the end, accepted or solved, by what stands at its offset.
   pub end-exactly : (r .reply ≡ End) ↔ (AllSilent (callChecks t stream at) × (at ≡ length stream))
-  pub accepted-exactly : (r .reply ≡ Accepted) ↔ (AllSilent (callChecks t stream at) × (Begins stream at sizeByte ⊎ Begins stream at poseByte))
+  pub accepted-exactly : (r .reply ≡ Accepted)
+      ↔ (AllSilent (callChecks t stream at) × (Begins stream at sizeByte ⊎ (Begins stream at poseByte ⊎ Begins stream at withdrawByte)))
   pub solved-exactly : (r .reply ≡ Solved) ↔ (AllSilent (callChecks t stream at) × Begins stream at solveByte)
   -- "A refused command changes neither session nor buffer", and a refusal "writes nothing".
   pub refusal-changes-nothing : (n d : ℕ) → RefusedWith (r .reply) n d → r .after ≡ t
@@ -203,6 +241,7 @@ pub record CallDemand1 (t : State) (stream : List ℕ) (at : ℕ) (r : Result) :
   -- What the other calls leave.
   pub accepted-size : r .reply ≡ Accepted → Begins stream at sizeByte → SizeLeaves t stream at (r .after)
   pub accepted-pose : r .reply ≡ Accepted → Begins stream at poseByte → PoseLeaves t stream at (r .after)
+  pub accepted-withdraw : r .reply ≡ Accepted → Begins stream at withdrawByte → WithdrawLeaves t stream at (r .after)
   pub solved-leaves : r .reply ≡ Solved → SolveLeaves t (r .after)
   -- "reading goes on at the next command, except that 5, 10, 11 and 13 end the stream: the next offset is then its length."
   pub next-at-end : EndsTheStream (r .reply) → r .next ≡ length stream

@@ -1,5 +1,5 @@
 -- Which poses a session holds after commands: a fold over the edits that were accepted, the last one that names a cell deciding what it holds.
--- Rests on what commands do in `Commands` and `Call`.
+-- Rests on what commands answer in `Stream`.
 use Prim.Native.Nat.{ℕ, _+_, _*_, _<_}
 use mathlib.Core.Path.{_≡_}
 use mathlib.Core.Bool.{Bool, true, false, _&&_, _||_, cond}
@@ -12,9 +12,11 @@ use Rattle.arithmetic.specs.Pose.{poseAt}
 use Rattle.arithmetic.specs.declared.pose.Pose.{Pose}
 use Rattle.limits.specs.Limits.{maxCameras}
 use Rattle.lists.specs.Masks.{inMask}
-use Rattle.command.specs.Command.{Edit, size, place, Command, edit, solve}
-use Rattle.session.specs.Commands.{commandRefusal}
-use Rattle.session.specs.Call.{State, stateAfter}
+use Rattle.command.specs.Command.{Edit, size, place, withdraw, Command, edit, solve}
+use Rattle.session.specs.Call.{State}
+use Rattle.session.specs.declared.Reply.{Reply}
+use Rattle.session.specs.declared.Reply.the-variants.{End, Accepted, Solved, Refused}
+use Rattle.claims_streams.specs.Stream.{answerTo}
 
 -- ---- the edits that are accepted, in their order
 
@@ -22,12 +24,18 @@ unfoldable pub editsIn : Command → List Edit
 editsIn (edit change) = change ∷ []
 editsIn solve = []
 
-unfoldable pub acceptedEdits : State → List Command → List Edit
+-- By the reply to a command.
+unfoldable pub acceptedIn : Command → Reply → List Edit
 unfolding editsIn
+acceptedIn command End = []
+acceptedIn command Accepted = editsIn command
+acceptedIn command Solved = []
+acceptedIn command (Refused r) = []
+
+unfoldable pub acceptedEdits : State → List Command → List Edit
+unfolding acceptedIn answerTo
 acceptedEdits t [] = []
-acceptedEdits t (command ∷ later) =
-    elim (commandRefusal (t .session) (t .buffer) command)
-    [ some r ↦ acceptedEdits t later | none ↦ editsIn command ++ acceptedEdits (stateAfter t command) later ]
+acceptedEdits t (command ∷ later) = acceptedIn command (answerTo t command .reply) ++ acceptedEdits (answerTo t command .after) later
 
 -- ---- what they leave of a cell
 
@@ -35,6 +43,7 @@ acceptedEdits t (command ∷ later) =
 unfoldable pub cellAfter : Edit → ℕ → ℕ → Option Pose → Option Pose
 cellAfter (size views cameras reference) v c before = before
 cellAfter (place view camera p) v c before = cond (eqb view v && eqb camera c) (some p) before
+cellAfter (withdraw view camera) v c before = cond (eqb view v && eqb camera c) none before
 
 unfoldable pub heldFrom : Option Pose → List Edit → ℕ → ℕ → Option Pose
 unfolding cellAfter
@@ -45,10 +54,29 @@ heldFrom before (change ∷ later) v c = heldFrom (cellAfter change v c before) 
 abbrev pub heldAfter : List Edit → ℕ → ℕ → Option Pose
 heldAfter edits v c = heldFrom none edits v c
 
+-- Whether an edit names a cell, and whether one of several does.
+unfoldable pub names : Edit → ℕ → ℕ → Bool
+names (size views cameras reference) v c = false
+names (place view camera p) v c = eqb view v && eqb camera c
+names (withdraw view camera) v c = eqb view v && eqb camera c
+
+unfoldable pub named : List Edit → ℕ → ℕ → Bool
+unfolding names
+named [] v c = false
+named (change ∷ later) v c = names change v c || named later v c
+
+-- The last of these edits that names the cell is a Pose with these numbers.
+pub record LastIsPose (edits : List Edit) (v c : ℕ) (p : Pose) : Type 0 where
+  pub before : List Edit
+  pub later : List Edit
+  pub splits : edits ≡ before ++ (place v c p ∷ later)
+  pub no-later : named later v c ≡ false
+
 -- Whether an edit writes the floats of a cell, and whether one of several does.
 unfoldable pub writes : Edit → ℕ → ℕ → Bool
 writes (size views cameras reference) v c = false
 writes (place view camera p) v c = eqb view v && eqb camera c
+writes (withdraw view camera) v c = false
 
 unfoldable pub written : List Edit → ℕ → ℕ → Bool
 unfolding writes

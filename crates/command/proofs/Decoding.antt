@@ -13,20 +13,23 @@ use lib.Seq.{getD-take, getD-drop, drop-drop, ext-getD}
 use lib.Dec.{eqb}
 use borrow.Author.Tests.{le-leb, lt-leb, eq-eqb, ne-eqb}
 use Rattle.command.specs.Framing.{Framed, whole, short, foreign, frame, framedBy, framed, SomeByte}
-use Rattle.command.specs.Command.{Command, edit, solve, sizeByte, poseByte, solveByte, sizeWidth, poseWidth, solveWidth, wordAt, doubleAt, offeredPose, widthOf, decode, commandAt, complete, broken, unknown, decoded, parse}
-use Rattle.command.specs.Inner.Parts.{widthOrZero, sizeAt, placeAt}
+use Rattle.command.specs.Command.{Command, edit, solve, sizeByte, poseByte, solveByte, withdrawByte, sizeWidth, poseWidth, solveWidth, withdrawWidth, wordAt, doubleAt, offeredPose, widthOf, decode, commandAt, complete, broken, unknown, decoded, parse}
+use Rattle.command.specs.Inner.Parts.{widthOrZero, sizeAt, placeAt, withdrawAt}
 use Rattle.command.proofs.Framing.{framed-whole, framed-drop, framed-own}
 
 -- Every command of the table takes a byte or more.
 pub widthOf-some : SomeByte widthOf
 unfolding widthOf
-widthOf-some byte w e = go (eqb byte sizeByte) (eqb byte poseByte) (eqb byte solveByte) _ _ _ e (omega arith) (omega arith) (omega arith)
+widthOf-some byte w e =
+    entry (eqb byte sizeByte) sizeWidth _ (omega arith)
+    (entry (eqb byte poseByte) poseWidth _ (omega arith)
+    (entry (eqb byte solveByte) solveWidth _ (omega arith)
+    (entry (eqb byte withdrawByte) withdrawWidth none (omega arith) (λ f. absurd (let z : _≡_ {A = ℕ} 0 1 = cc in omega arith))))) e
   where
-    go : (a b c : Bool) (x y z : ℕ) → cond a (some x) (cond b (some y) (cond c (some z) none)) ≡ some w → 0 < x → 0 < y → 0 < z → 0 < w
-    go true b c x y z f hx hy hz = let same : x ≡ w = cc in omega arith
-    go false true c x y z f hx hy hz = let same : y ≡ w = cc in omega arith
-    go false false true x y z f hx hy hz = let same : z ≡ w = cc in omega arith
-    go false false false x y z f hx hy hz = absurd (let z : _≡_ {A = ℕ} 0 1 = cc in omega arith)
+    -- One entry of the table, and the rest of it.
+    entry : (b : Bool) (x : ℕ) (rest : Option ℕ) → 0 < x → (rest ≡ some w → 0 < w) → cond b (some x) rest ≡ some w → 0 < w
+    entry true x rest h later f = let same : x ≡ w = cc in omega arith
+    entry false x rest h later f = later f
 
 -- ---- by the framing
 
@@ -203,14 +206,30 @@ module _ (stream : List ℕ) (at : ℕ) where
         found .1,
       )
 
-  pub parse-solve : (byte ≡ sizeByte → ⊥) → (byte ≡ poseByte → ⊥) → (widthOrZero (widthOf byte) ≡ 0 → ⊥)
+  pub parse-withdraw : byte ≡ withdrawByte → at + widthOrZero (widthOf byte) ≤ length stream
+      → (parse stream at ≡ complete (edit (withdrawAt stream at)) withdrawWidth) × (at + withdrawWidth ≤ length stream)
+  unfolding widthOf commandAt decode
+  parse-withdraw e room =
+      let found = parse-whole withdrawWidth (rw e refl) room in (
+        found .0
+            ∙ ap (λ (c : Command). complete c withdrawWidth)
+            (rw (
+              own-first stream at withdrawWidth (omega arith),
+              e,
+              own-byte stream at withdrawWidth 1 (omega arith),
+              own-byte stream at withdrawWidth 2 (omega arith),
+            ) refl),
+        found .1,
+      )
+
+  pub parse-solve : (byte ≡ sizeByte → ⊥) → (byte ≡ poseByte → ⊥) → (byte ≡ withdrawByte → ⊥) → (widthOrZero (widthOf byte) ≡ 0 → ⊥)
       → at + widthOrZero (widthOf byte) ≤ length stream → parse stream at ≡ complete solve solveWidth
   unfolding widthOf commandAt decode
-  parse-solve z p some-width room = go (ℕ-discrete byte solveByte)
+  parse-solve z p t some-width room = go (ℕ-discrete byte solveByte)
     where
       go : Dec (byte ≡ solveByte) → parse stream at ≡ complete solve solveWidth
       go (yes e) =
           parse-whole solveWidth (rw (ne-eqb byte sizeByte z, ne-eqb byte poseByte p, eq-eqb byte solveByte e) refl) room .0
           ∙ ap (λ (c : Command). complete c solveWidth)
-          (rw (own-first stream at solveWidth (omega arith), ne-eqb byte sizeByte z, ne-eqb byte poseByte p) refl)
-      go (no s) = absurd (some-width (rw (ne-eqb byte sizeByte z, ne-eqb byte poseByte p, ne-eqb byte solveByte s) refl))
+          (rw (own-first stream at solveWidth (omega arith), ne-eqb byte sizeByte z, ne-eqb byte poseByte p, ne-eqb byte withdrawByte t) refl)
+      go (no s) = absurd (some-width (rw (ne-eqb byte sizeByte z, ne-eqb byte poseByte p, ne-eqb byte solveByte s, ne-eqb byte withdrawByte t) refl))

@@ -14,9 +14,9 @@ use lib.Ieee.{Float, binary64, ofBits, toBits, fits}
 use lib.Ieee.Bits.{ofBits-toBits, toBits-lt}
 use Rattle.arithmetic.specs.declared.pose.Pose.{Pose}
 use Rattle.command.specs.Framing.{frame}
-use Rattle.command.specs.Command.{size, place, Command, edit, solve, sizeByte, poseByte, wordAt, doubleAt, offeredPose, widthOf, decode, commandAt, complete, parse}
+use Rattle.command.specs.Command.{size, place, withdraw, Command, edit, solve, sizeByte, poseByte, withdrawByte, wordAt, doubleAt, offeredPose, widthOf, decode, commandAt, complete, parse}
 use Rattle.command.specs.Writing.{lowBytes, doubleBytes, poseBytesOf, bytesOf, Doubles, OfDoubles, OfBytes}
-use Rattle.command.proofs.Decoding.{parse-size, parse-place, parse-solve}
+use Rattle.command.proofs.Decoding.{parse-size, parse-place, parse-withdraw, parse-solve}
 
 -- ---- words
 
@@ -110,7 +110,8 @@ module _ (rest : List ℕ) where
   parse-bytesOf (edit (place v c p)) h =
       parse-place (bytesOf (edit (place v c p)) ++ rest) 0 (omega arith) refl (rw (length-append (bytesOf (edit (place v c p))) rest) (omega arith)) .0
       ∙ ap (λ (q : Pose). complete (edit (place v c q)) 59) (offered-bytes v c p h)
-  parse-bytesOf solve h = parse-solve (bytesOf solve ++ rest) 0 (omega arith) (omega arith) (omega arith) (rw (length-append (bytesOf solve) rest) (omega arith))
+  parse-bytesOf (edit (withdraw v c)) h = parse-withdraw (bytesOf (edit (withdraw v c)) ++ rest) 0 refl (rw (length-append (bytesOf (edit (withdraw v c))) rest) (omega arith)) .0
+  parse-bytesOf solve h = parse-solve (bytesOf solve ++ rest) 0 (omega arith) (omega arith) (omega arith) (omega arith) (rw (length-append (bytesOf solve) rest) (omega arith))
 
 -- ---- every byte is one
 
@@ -152,6 +153,7 @@ below-command (edit (place v c p)) (hv, hc) =
     (below-append _ _ (below-double (p .rotation .i))
     (below-append _ _ (below-double (p .rotation .j))
     (below-append _ _ (below-double (p .rotation .k)) (below-double (p .rotation .w))))))))))
+below-command (edit (withdraw v c)) (hv, hc) = below-more 4 _ (omega arith) (below-more v _ hv (below-more c [] hc below-none))
 below-command solve h = below-more 3 [] (omega arith) below-none
 
 pub bytesOf-below : (command : Command) → OfBytes command → (i : ℕ) → getD (bytesOf command) i 0 < 256
@@ -161,13 +163,13 @@ bytesOf-below command h = below-command command h .each
 
 decode-bytes : (l : List ℕ) → ((i : ℕ) → getD l i 0 < 256) → OfBytes (decode l)
 unfolding decode
-decode-bytes l bytes = go (eqb (getD l 0 0) sizeByte) (eqb (getD l 0 0) poseByte)
+decode-bytes l bytes =
+    either (eqb (getD l 0 0) sizeByte) _ _ (bytes 1, bytes 2, bytes 3)
+    (either (eqb (getD l 0 0) poseByte) _ _ (bytes 1, bytes 2) (either (eqb (getD l 0 0) withdrawByte) _ _ (bytes 1, bytes 2) tt))
   where
-    go : (a b : Bool) → OfBytes
-        (cond a (edit (size (getD l 1 0) (getD l 2 0) (getD l 3 0))) (cond b (edit (place (getD l 1 0) (getD l 2 0) (offeredPose l 3))) solve))
-    go true b = (bytes 1, bytes 2, bytes 3)
-    go false true = (bytes 1, bytes 2)
-    go false false = tt
+    either : (b : Bool) (command other : Command) → OfBytes command → OfBytes other → OfBytes (cond b command other)
+    either true command other h k = h
+    either false command other h k = k
 
 pub commandAt-bytes : (stream : List ℕ) → ((i : ℕ) → getD stream i 0 < 256) → (at w : ℕ) → OfBytes (commandAt stream (frame at w))
 unfolding commandAt

@@ -1,4 +1,4 @@
--- Commands in a stream of bytes, by document 01, "A stream arrives": "A command is one byte followed by operands of fixed widths. Floats are the 64 bits of an IEEE 754 double, low byte first."
+-- Commands in a stream of bytes, by document 01, "A stream arrives", and document 02: "A command is one byte followed by operands of fixed widths. Floats are the 64 bits of an IEEE 754 double, low byte first."
 -- Rests on the poses of `arithmetic`, and on how a table of widths cuts a stream, in `Framing`.
 use Prim.Native.Nat.{ℕ, _+_, _*_}
 use mathlib.Core.Bool.{cond}
@@ -12,16 +12,17 @@ use Rattle.arithmetic.specs.declared.pose.Pose.{Pose}
 use Rattle.command.specs.Framing.{Framed, whole, short, foreign, Frame, frame, framed}
 
 -- A command edits the session, or is Solve, which answers from it: "0x01 Size: views, cameras, reference; one byte each. 0x02 Pose: view, camera, one
--- byte each, then seven floats. 0x03 Solve: no operands."
+-- byte each, then seven floats. 0x03 Solve: no operands." Document 02: "Command 0x04, with view and camera bytes, withdraws it."
 pub data Edit : Type 0 where
   size : (views cameras reference : ℕ) → Edit
   place : (view camera : ℕ) → Pose → Edit
+  withdraw : (view camera : ℕ) → Edit
 
 pub data Command : Type 0 where
   edit : Edit → Command
   solve : Command
 
--- The bytes that begin Size, Pose and Solve, and how many bytes each takes with its operands.
+-- The bytes that begin Size, Pose, Solve and Withdraw, and how many bytes each takes with its operands.
 abbrev pub sizeByte : ℕ
 sizeByte = 1
 
@@ -31,6 +32,9 @@ poseByte = 2
 abbrev pub solveByte : ℕ
 solveByte = 3
 
+abbrev pub withdrawByte : ℕ
+withdrawByte = 4
+
 abbrev pub sizeWidth : ℕ
 sizeWidth = 4
 
@@ -39,6 +43,9 @@ poseWidth = 59
 
 abbrev pub solveWidth : ℕ
 solveWidth = 1
+
+abbrev pub withdrawWidth : ℕ
+withdrawWidth = 3
 
 -- Eight bytes from `at`, low byte first.
 unfoldable pub wordAt : List ℕ → ℕ → ℕ
@@ -68,7 +75,8 @@ unfoldable pub widthOf : ℕ → Option ℕ
 widthOf byte =
     cond (eqb byte sizeByte) (some sizeWidth)
     (cond (eqb byte poseByte) (some poseWidth)
-    (cond (eqb byte solveByte) (some solveWidth) none))
+    (cond (eqb byte solveByte) (some solveWidth)
+    (cond (eqb byte withdrawByte) (some withdrawWidth) none)))
 
 -- The command that these bytes are, from the first to the last: which one is told by the first byte, one of the table.
 unfoldable pub decode : List ℕ → Command
@@ -77,7 +85,7 @@ decode bytes =
     let byte : ℕ → ℕ = λ i. getD bytes i 0 in
     cond (eqb (byte 0) sizeByte) (edit (size (byte 1) (byte 2) (byte 3)))
     (cond (eqb (byte 0) poseByte) (edit (place (byte 1) (byte 2) (offeredPose bytes 3)))
-    solve)
+    (cond (eqb (byte 0) withdrawByte) (edit (withdraw (byte 1) (byte 2))) solve))
 
 -- The command at a place of a stream, and those at several.
 unfoldable pub commandAt : List ℕ → Frame → Command

@@ -5,7 +5,7 @@ use mathlib.Core.List.{List, [], _∷_, _++_}
 use lib.Dec.{T}
 use lib.Ieee.{Float, binary64, toBits, fits}
 use Rattle.arithmetic.specs.declared.pose.Pose.{Pose}
-use Rattle.command.specs.Command.{size, place, Command, edit, solve, sizeByte, poseByte, solveByte}
+use Rattle.command.specs.Command.{size, place, withdraw, Command, edit, solve, sizeByte, poseByte, solveByte, withdrawByte}
 
 -- So many bytes of a number, low byte first.
 unfoldable pub lowBytes : ℕ → ℕ → List ℕ
@@ -30,6 +30,7 @@ unfoldable pub bytesOf : Command → List ℕ
 unfolding poseBytesOf
 bytesOf (edit (size views cameras reference)) = sizeByte ∷ views ∷ cameras ∷ reference ∷ []
 bytesOf (edit (place view camera p)) = poseByte ∷ view ∷ camera ∷ poseBytesOf p
+bytesOf (edit (withdraw view camera)) = withdrawByte ∷ view ∷ camera ∷ []
 bytesOf solve = solveByte ∷ []
 
 -- Seven numbers that are doubles.
@@ -46,10 +47,12 @@ pub record Doubles (p : Pose) : Type 0 where
 abbrev pub OfDoubles : Command → Type 0
 OfDoubles (edit (size views cameras reference)) = Unit {0}
 OfDoubles (edit (place view camera p)) = Doubles p
+OfDoubles (edit (withdraw view camera)) = Unit {0}
 OfDoubles solve = Unit {0}
 
 -- A command whose operands of one byte are bytes.
 abbrev pub OfBytes : Command → Type 0
 OfBytes (edit (size views cameras reference)) = (views < 256) × (cameras < 256) × (reference < 256)
 OfBytes (edit (place view camera p)) = (view < 256) × (camera < 256)
+OfBytes (edit (withdraw view camera)) = (view < 256) × (camera < 256)
 OfBytes solve = Unit {0}

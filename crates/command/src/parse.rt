@@ -10,7 +10,7 @@ const SIZE_BYTE: u8 = 1;
 
 const POSE_BYTE: u8 = 2;
 
-const SOLVE_BYTE: u8 = 3;
+const WITHDRAW_BYTE: u8 = 4;
 
 // How many bytes a command takes with its operands.
 pub const SIZE_WIDTH: usize = 4;
@@ -19,10 +19,13 @@ pub const POSE_WIDTH: usize = 59;
 
 pub const SOLVE_WIDTH: usize = 1;
 
+pub const WITHDRAW_WIDTH: usize = 3;
+
 // A whole command, one that the stream ends within, or a byte that begins none.
 pub enum Parsed {
     Size,
     Place,
+    Withdraw,
     Solve,
     Broken,
     Unknown(u8),
@@ -36,6 +39,7 @@ fn width_of(byte: u8) -> usize
         1 => SIZE_WIDTH,
         2 => POSE_WIDTH,
         3 => SOLVE_WIDTH,
+        4 => WITHDRAW_WIDTH,
         _ => 0,
     }
 }
@@ -58,6 +62,9 @@ pub fn parse(stream: &[u8], at: usize) -> Parsed
     }
     if byte == POSE_BYTE {
         return Parsed::Place;
+    }
+    if byte == WITHDRAW_BYTE {
+        return Parsed::Withdraw;
     }
     Parsed::Solve
 }

@@ -7,7 +7,7 @@ use mathlib.Core.Logic.{⊎-elim}
 use mathlib.Core.Path.{_≡_, refl}
 use mathlib.Core.Bool.{Bool, true, false, _||_}
 use mathlib.Core.Option.{Option, none, some}
-use mathlib.Core.List.{List, [], _∷_}
+use mathlib.Core.List.{List, [], _∷_, _++_}
 use Rattle.lists.proofs.Tests.{or-false}
 use borrow.Author.Tests.{eqb-true, eqb-false, ne-eqb, le-ltb, ltb-false, lt-leb, leb-false, not-false}
 use lib.Dec.{eqb, ltb, leb}
@@ -55,6 +55,12 @@ firstOf-some check later r e = rw e refl
 pub firstOf-none : (check : Option Refusal) (later : List (Option Refusal)) → check ≡ none → firstOf (check ∷ later) ≡ firstOf later
 unfolding firstOf
 firstOf-none check later e = rw e refl
+
+pub firstOf-append : (checks later : List (Option Refusal)) → firstOf (checks ++ later) ≡ orElse (firstOf checks) (firstOf later)
+unfolding firstOf orElse
+firstOf-append [] later = refl
+firstOf-append (none ∷ checks) later = firstOf-append checks later
+firstOf-append (some r ∷ checks) later = refl
 
 -- ---- what a check that finds nothing has shown
 

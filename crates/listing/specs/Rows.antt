@@ -7,7 +7,7 @@ use Prim.Native.String as text
 use mathlib.Core.List.{List, [], _∷_, _++_}
 use lib.Ieee.{binary64, ofBits}
 use Rattle.refusal.specs.declared.Refusal.{Refusal}
-use Rattle.refusal.specs.declared.Refusal.the-variants.{Unreached, TooLong, HeldAlready}
+use Rattle.refusal.specs.declared.Refusal.the-variants.{Unreached, TooLong, HeldAlready, NotHeld}
 use Rattle.listing.specs.Listing.{decimalText, floatText, refusalLine}
 
 -- What is printed, and what the row says.
@@ -78,6 +78,7 @@ refusalRows =
     refusal (Unreached 2) "no 8 2"
     ∷ refusal TooLong "no 13 0"
     ∷ refusal (HeldAlready 16143) "no 23 16143"
+    ∷ refusal (NotHeld 258) "no 24 258"
     ∷ []
 
 unfoldable pub rows : List Row

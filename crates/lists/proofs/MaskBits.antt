@@ -1,6 +1,7 @@
--- One bit more in a mask: what m + 2 ^ v marks where m does not mark view v, and how a mask is made bit by bit from the lowest up.
+-- One bit more in a mask, or one fewer: what m + 2 ^ v marks where m does not mark view v, and m - 2 ^ v where it does; and how a mask is made bit by bit
+-- from the lowest up.
 -- Assumes nothing.
-use Prim.Native.Nat.{ℕ, zero, suc, _+_, _-_, _*_, _/_, _%_, _^_, _<_}
+use Prim.Native.Nat.{ℕ, zero, suc, _+_, _-_, _*_, _/_, _%_, _^_, _≤_, _<_}
 use native.Mathlib.Nat.{suc-mul, add-div-right, add-mul-div-right, mod-lt, div-eq-of-lt, eq-zero-or-pos}
 use native.Mathlib.Numerals.{one-add, add-one}
 use native.Mathlib.Omega.{arith}
@@ -80,6 +81,28 @@ module _ (m v : ℕ) (clear : inMask m v ≡ false) where
       even : (q k : ℕ) → 0 < k → q % 2 ≡ 0 → q < 2 ^ k → q + 1 < 2 ^ k
       even q zero g e f = absurd (omega arith)
       even q (suc k) g e f = omega arith
+
+-- ---- a bit taken away
+
+module _ (m v : ℕ) (set : inMask m v ≡ true) where
+  pub power-below : 2 ^ v ≤ m
+  power-below = ⊎-elim (λ e. absurd (omega (arith, set-bit m v set, small (omega arith)))) (λ h. omega arith) (eq-zero-or-pos (m + 1 - 2 ^ v))
+    where
+      small : m < 2 ^ v → m / 2 ^ v ≡ 0
+      small h = div-eq-of-lt h
+
+  -- Put back, it makes the mask that it was.
+  pub minus-plus : m - 2 ^ v + 2 ^ v ≡ m
+  minus-plus = omega (arith, power-below)
+
+  pub inMask-minus-same : inMask (m - 2 ^ v) v ≡ false
+  unfolding inMask
+  inMask-minus-same =
+      ne-eqb ((m - 2 ^ v) / 2 ^ v % 2) 1
+      (omega (arith, set-bit m v set, add-div-right (m - 2 ^ v) (pow-pos v), ap (λ (x : ℕ). x / 2 ^ v) minus-plus))
+
+  pub inMask-minus-other : (w : ℕ) → w ≢ v → inMask (m - 2 ^ v) w ≡ inMask m w
+  inMask-minus-other w different = sym (inMask-plus-other (m - 2 ^ v) v inMask-minus-same w different) ∙ ap (λ (x : ℕ). inMask x w) minus-plus
 
 -- ---- a mask from its lowest bits up
 

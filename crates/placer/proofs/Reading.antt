@@ -8,7 +8,7 @@ use mathlib.Core.Option.{Option, none, some}
 use borrow.Author.Tests.{ne-eqb}
 use Rattle.refusal.specs.Table.{numberOf, detailOf}
 use Rattle.refusal.specs.declared.Refusal.{Refusal}
-use Rattle.refusal.specs.declared.Refusal.the-variants.{InsufficientData, TooMany, InvalidReference, CountDiffers, WrongLength, BadMark, NotFinite, Unreached, EmptyView, UnknownCommand, Truncated, OutsideRig, TooLong, NoSize, SizeAgain, HeldAlready}
+use Rattle.refusal.specs.declared.Refusal.the-variants.{InsufficientData, TooMany, InvalidReference, CountDiffers, WrongLength, BadMark, NotFinite, Unreached, EmptyView, UnknownCommand, Truncated, OutsideRig, TooLong, NoSize, SizeAgain, HeldAlready, NotHeld}
 use Rattle.extrinsics.specs.declared.Outcome.{Outcome}
 use Rattle.extrinsics.specs.declared.Outcome.the-variants as Came
 use Rattle.session.specs.declared.Reply.{Reply}
@@ -37,6 +37,7 @@ withNumber-numberOf TooLong = refl
 withNumber-numberOf NoSize = refl
 withNumber-numberOf SizeAgain = refl
 withNumber-numberOf (HeldAlready cell) = refl
+withNumber-numberOf (NotHeld cell) = refl
 
 number-above-0 : (q : Refusal) → 1 ≤ numberOf q
 number-above-0 InsufficientData = omega arith
@@ -55,6 +56,7 @@ number-above-0 TooLong = omega arith
 number-above-0 NoSize = omega arith
 number-above-0 SizeAgain = omega arith
 number-above-0 (HeldAlready cell) = omega arith
+number-above-0 (NotHeld cell) = omega arith
 
 -- "A reply of 2^32 or more is a refusal".
 pub codeOf-above : (q : Refusal) → 2 ^ 32 ≤ codeOf q

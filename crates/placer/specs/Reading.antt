@@ -10,7 +10,7 @@ use lib.Dec.{eqb}
 use lib.Ieee.{Float}
 use Rattle.refusal.specs.Table.{numberOf}
 use Rattle.refusal.specs.declared.Refusal.{Refusal}
-use Rattle.refusal.specs.declared.Refusal.the-variants.{InsufficientData, TooMany, InvalidReference, CountDiffers, WrongLength, BadMark, NotFinite, Unreached, EmptyView, UnknownCommand, Truncated, OutsideRig, TooLong, NoSize, SizeAgain, HeldAlready}
+use Rattle.refusal.specs.declared.Refusal.the-variants.{InsufficientData, TooMany, InvalidReference, CountDiffers, WrongLength, BadMark, NotFinite, Unreached, EmptyView, UnknownCommand, Truncated, OutsideRig, TooLong, NoSize, SizeAgain, HeldAlready, NotHeld}
 use Rattle.extrinsics.specs.Direct.{Direct}
 use Rattle.extrinsics.specs.declared.Outcome.{Outcome}
 use Rattle.extrinsics.specs.declared.Outcome.the-variants as Came
@@ -45,6 +45,7 @@ refusalsWith detail =
     ∷ NoSize
     ∷ SizeAgain
     ∷ HeldAlready detail
+    ∷ NotHeld detail
     ∷ []
 
 -- The one of these with that number; for a number that the table does not have, any.

@@ -1,10 +1,10 @@
--- Document 01's table of refusals: the number of each and the detail that it names, 0 where it names none; and how checks follow one another. Assumes nothing.
+-- The papers' table of refusals, document 01's and what document 02 adds: the number of each and the detail that it names, 0 where it names none; and how checks follow one another. Assumes nothing.
 use Prim.Native.Nat.{ℕ}
 use mathlib.Core.Bool.{Bool, true, false}
 use mathlib.Core.Option.{Option, none, some}
 use mathlib.Core.List.{List, [], _∷_}
 use Rattle.refusal.specs.declared.Refusal.{Refusal}
-use Rattle.refusal.specs.declared.Refusal.the-variants.{InsufficientData, TooMany, InvalidReference, CountDiffers, WrongLength, BadMark, NotFinite, Unreached, EmptyView, UnknownCommand, Truncated, OutsideRig, TooLong, NoSize, SizeAgain, HeldAlready}
+use Rattle.refusal.specs.declared.Refusal.the-variants.{InsufficientData, TooMany, InvalidReference, CountDiffers, WrongLength, BadMark, NotFinite, Unreached, EmptyView, UnknownCommand, Truncated, OutsideRig, TooLong, NoSize, SizeAgain, HeldAlready, NotHeld}
 
 abbrev pub numberOf : Refusal → ℕ
 numberOf InsufficientData = 1
@@ -23,6 +23,7 @@ numberOf TooLong = 13
 numberOf NoSize = 21
 numberOf SizeAgain = 22
 numberOf (HeldAlready cell) = 23
+numberOf (NotHeld cell) = 24
 
 abbrev pub detailOf : Refusal → ℕ
 detailOf InsufficientData = 0
@@ -41,6 +42,7 @@ detailOf TooLong = 0
 detailOf NoSize = 0
 detailOf SizeAgain = 0
 detailOf (HeldAlready cell) = cell
+detailOf (NotHeld cell) = cell
 
 -- ---- checks: each finds a refusal or nothing, and the first that finds one decides
 

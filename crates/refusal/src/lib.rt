@@ -1,4 +1,4 @@
-// What every entry refuses with: one case for each number of document 01's table, and what each names.
+// What every entry refuses with: one case for each number of the papers' table, and what each names.
 ghost use mathlib.Core.Path.{_≡_};
 ghost use Rattle.refusal.specs.Table.{numberOf, detailOf};
 
@@ -29,12 +29,14 @@ pub enum Refusal {
     OutsideRig(u32),
     // A stream of more than 65,536 bytes.
     TooLong,
-    // Pose or Solve before an accepted Size.
+    // Pose, Withdraw or Solve before an accepted Size.
     NoSize,
     // Size after an accepted Size.
     SizeAgain,
     // A cell that is held already: view times 256 plus camera.
     HeldAlready(u32),
+    // A cell that holds no pose: view times 256 plus camera.
+    NotHeld(u32),
 }
 
 impl Refusal {
@@ -58,6 +60,7 @@ impl Refusal {
             Refusal::NoSize => 21,
             Refusal::SizeAgain => 22,
             Refusal::HeldAlready(_) => 23,
+            Refusal::NotHeld(_) => 24,
         }
     }
 
@@ -75,6 +78,7 @@ impl Refusal {
             Refusal::Truncated(offset) => offset,
             Refusal::OutsideRig(cell) => cell,
             Refusal::HeldAlready(cell) => cell,
+            Refusal::NotHeld(cell) => cell,
             Refusal::InsufficientData => 0,
             Refusal::TooMany => 0,
             Refusal::InvalidReference => 0,

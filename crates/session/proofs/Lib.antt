@@ -1,8 +1,11 @@
 -- Laws of `session` that belong to no one function, a file a topic.
 pub mod SetBits
+pub mod ClearBits
 pub mod Obeying
 pub mod SizeCommands
+pub mod CellCommands
 pub mod PoseCommands
+pub mod WithdrawCommands
 pub mod SolveCommands
 pub mod PassedCalls
 pub mod ReadCommands

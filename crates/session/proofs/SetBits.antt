@@ -13,7 +13,8 @@ use Rattle.lists.specs.Masks.{inMask}
 pub one-shl : (v : ℕ) → v < 64 → 1 * 2 ^ v % 18446744073709551616 ≡ 2 ^ v
 one-shl v h = shl-exact {a = 1} 1 v 64 (omega arith) (omega arith) ∙ omega arith
 
-and-power : (m v : ℕ) → bitAnd m (2 ^ v) ≡ m / 2 ^ v % 2 * 2 ^ v
+-- Joined by and with one bit, a mask gives that bit in its place.
+pub and-power : (m v : ℕ) → bitAnd m (2 ^ v) ≡ m / 2 ^ v % 2 * 2 ^ v
 and-power m v =
     ap₂ bitAnd (sym (split m v)) (whole v)
     ∙ and-block v (m / 2 ^ v) 1 (m % 2 ^ v) 0 (mod-lt m (pow-pos v)) (pow-pos v)

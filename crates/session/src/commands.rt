@@ -11,9 +11,11 @@ use crate::pose::obey_pose;
 use crate::replies::refuse;
 use crate::size::obey_size;
 use crate::solve::obey_solve;
+use crate::withdraw::obey_withdraw;
 use command::parse::Parsed;
 use command::parse::SIZE_WIDTH;
 use command::parse::SOLVE_WIDTH;
+use command::parse::WITHDRAW_WIDTH;
 use command::parse::parse;
 use refusal::Refusal;
 use session_record::Session;
@@ -40,6 +42,12 @@ pub fn obey_command(
             at + SIZE_WIDTH,
         ),
         Parsed::Place => obey_pose(session, stream, at, buffer),
+        Parsed::Withdraw => obey_withdraw(
+            session,
+            stream[at + 1],
+            stream[at + 2],
+            at + WITHDRAW_WIDTH,
+        ),
         Parsed::Solve => obey_solve(session, at + SOLVE_WIDTH, buffer, transforms, chains),
         Parsed::Broken => refuse(session, Refusal::Truncated(at as u32), end),
         Parsed::Unknown(byte) => refuse(session, Refusal::UnknownCommand(byte as u32), end),

@@ -3,11 +3,13 @@ ghost use mathlib.Core.Path.{_≡_};
 ghost use Rattle.inputs.specs.Inputs.{checkedOf};
 ghost use Rattle.session.specs.Call.{state, callRefusal, Called};
 
+mod cell;
 pub mod commands;
 mod pose;
 mod replies;
 mod size;
 mod solve;
+mod withdraw;
 
 use crate::commands::obey_command;
 use crate::replies::refuse;
@@ -33,7 +35,7 @@ pub const SECOND_BYTES: usize = CHAIN_BYTES * MAX_CAMERAS;
 pub enum Reply {
     // The offset is the stream's length.
     End,
-    // Size or Pose was obeyed.
+    // Size, Pose or Withdraw was obeyed.
     Accepted,
     // Solve was obeyed: the rig stands in the lent answers.
     Solved,

@@ -16,6 +16,9 @@ ghost use Rattle.session.specs.Call.{state, obeyed};
 ghost use Rattle.session.specs.Inner.Steps.{resultOf};
 use crate::Reply;
 use crate::Step;
+use crate::cell::check_cell;
+use crate::cell::is_held;
+use crate::cell::named_cell;
 use crate::replies::refuse;
 use arithmetic::pose::Pose;
 use command::bytes::is_finite_pose;
@@ -27,13 +30,6 @@ use limits::POSE_FLOATS;
 use refusal::Refusal;
 use session_record::Session;
 use session_record::change::with_mask;
-
-fn is_held(mask: u64, view: u8) -> bool
-    requires { ⌜ view < maxViews ⌝ }
-    ensures { λ r. ⌜ r ≡ inMask mask view ⌝ }
-{
-    (mask >> view) & 1 == 1
-}
 
 // The session with one cell more, which it does not hold yet.
 fn hold(session: Session, view: u8, camera: u8) -> Session
@@ -49,15 +45,11 @@ fn check_pose(session: Session, view: u8, camera: u8, stream: &[u8], at: usize) 
     requires { ⌜ (at + poseBytes ≤ length (now stream)) × (possible session ≡ true) ⌝ }
     ensures { λ r. ⌜ r ≡ checkedOf (poseCommandRefusal session view camera (offeredPose (now (stream .entry)) at)) ⌝ }
 {
-    if session.views == 0 {
-        return Checked::Refused(Refusal::NoSize);
-    }
-    let named = view as u32 * 256 + camera as u32;
-    if (session.views <= view) | (session.cameras <= camera) {
-        return Checked::Refused(Refusal::OutsideRig(named));
+    if let Checked::Refused(refusal) = check_cell(session, view, camera) {
+        return Checked::Refused(refusal);
     }
     if is_held(session.masks[camera as usize], view) {
-        return Checked::Refused(Refusal::HeldAlready(named));
+        return Checked::Refused(Refusal::HeldAlready(named_cell(view, camera)));
     }
     if !is_finite_pose(stream, at) {
         return Checked::Refused(Refusal::NotFinite(

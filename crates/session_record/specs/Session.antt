@@ -1,6 +1,6 @@
 -- What a session holds, by document 01: the record, the buffer beside it, how one field or one mask is changed, and which records accepted commands
--- can leave, told by a check. What each command does is in `Size`, `Pose` and `Solve`; the record as words for C is in `Step` of the crate `placer`.
--- Rests on the grids of `extrinsics`.
+-- can leave, told by a check. What each command does is in the crate `session`, a file a command; the record as words for C is in `Step` of the crate `placer`.
+-- Rests on the grids of `placing`.
 use Prim.Native.Nat.{ℕ, zero, suc, _+_, _*_, _^_}
 use mathlib.Core.Bool.{Bool, true, false, not, _&&_, _||_, cond}
 use mathlib.Core.Option.{Option, none, some}
@@ -42,7 +42,7 @@ bufferLength = 7168
 abbrev pub cellStart : ℕ → ℕ → ℕ
 cellStart view camera = 7 * (view * 16 + camera)
 
--- The cell that the details of 12 and 23 name.
+-- The cell that the details of 12, 23 and 24 name.
 abbrev pub namedCell : ℕ → ℕ → ℕ
 namedCell view camera = view * 256 + camera
 

@@ -1,6 +1,6 @@
 -- All that the theorems on records, streams and held poses ask of an edit, whichever it is. A new edit brings a file that proves this of it, and a
 -- line in `All`. Assumes nothing.
-use Prim.Native.Nat.{ℕ, _+_, _*_, _<_}
+use Prim.Native.Nat.{ℕ, _+_, _<_}
 use mathlib.Core.Path.{_≡_}
 use mathlib.Core.Logic.{_⊎_}
 use mathlib.Core.Bool.{true, false}
@@ -51,13 +51,14 @@ pub record EditLaw (change : Edit) : Type 0 where
   -- The buffer stays as long as it is.
   pub length-kept : (s : Session) (buffer : List Float) → editRefusal s change ≡ none → Sound s → length buffer ≡ bufferLength
       → length (editBuffer buffer change) ≡ length buffer
-  -- Of each cell it leaves what it says that it leaves, and finite numbers where there were such; it writes floats to a cell that held none, and to no
-  -- other.
+  -- Of each cell it leaves what it says that it leaves, and finite numbers where there were such; it writes floats to a cell that held none and then
+  -- holds a pose, and to no other.
   pub cells-after : (s : Session) (buffer : List Float) → editRefusal s change ≡ none → Sound s → length (s .masks) ≡ maxCameras
       → length buffer ≡ bufferLength → (v c : ℕ) (o : Option Pose) → c < maxCameras → HoldsCell (s .masks) buffer v c o
       → HoldsCell (editSession s change .masks) (editBuffer buffer change) v c (cellAfter change v c o)
   pub finite-after : (s : Session) → editRefusal s change ≡ none → (v c : ℕ) (o : Option Pose) → FiniteCell o → FiniteCell (cellAfter change v c o)
   pub into-empty : (s : Session) → editRefusal s change ≡ none → (v c : ℕ) → writes change v c ≡ true → inMask (getD (s .masks) c 0) v ≡ false
+  pub holds-written : (v c : ℕ) → writes change v c ≡ true → (o : Option Pose) → (p : Pose) × (cellAfter change v c o ≡ some p)
   pub others-kept : (s : Session) (buffer : List Float) → editRefusal s change ≡ none → Sound s → length buffer ≡ bufferLength
       → (v c : ℕ) → c < maxCameras → writes change v c ≡ false
       → (k : ℕ) → k < 7 → getD (editBuffer buffer change) (cellStart v c + k) nan ≡ getD buffer (cellStart v c + k) nan

@@ -1,20 +1,19 @@
 -- The command Pose as an edit: when it is accepted, and its law (`place-law`): its bit is new in its mask, and its seven floats are put over those of
 -- its cell, which held none. Assumes nothing.
 use Prim.Native.Nat.{ℕ, _+_, _*_, _^_, _≤_, _<_}
-use native.Mathlib.Decide.{ℕ-discrete, decLt}
 use native.Mathlib.Nat.{mul-le-mul}
 use native.Mathlib.Omega.{arith}
 use mathlib.Core.Path.{_≡_, refl, sym, ap, subst, _∙_}
 use mathlib.Core.Logic.{inr, ⊎-elim}
-use mathlib.Core.Bool.{Bool, true, false, not, _&&_, _||_, cond, true≢false}
+use mathlib.Core.Bool.{Bool, true, false, not, _||_, cond, true≢false}
 use mathlib.Core.Option.{Option, none, some}
-use mathlib.Core.List.{List, [], _∷_, _++_}
-use lib.ListN.{length, getD, set, take, drop, length-append, length-take, length-drop, length-set}
-use lib.Seq.{set-out, getD-set-same, getD-set-other}
-use lib.Dec.{T, eqb, leb}
+use mathlib.Core.List.{List, [], _∷_}
+use lib.ListN.{length, getD, set, length-append, length-take, length-drop, length-set}
+use lib.Seq.{getD-set-same, getD-set-other}
+use lib.Dec.{T, leb}
 use lib.Ieee.{Float, nan}
-use borrow.Author.Tests.{leb-false, eqb-true, not-false, lt-leb, eq-eqb, ne-eqb}
-use Rattle.arithmetic.specs.Pose.{finitePose, poseAt, flat}
+use borrow.Author.Tests.{leb-false, not-false, lt-leb, ne-eqb}
+use Rattle.arithmetic.specs.Pose.{finitePose}
 use Rattle.arithmetic.specs.declared.pose.Pose.{Pose}
 use Rattle.refusal.specs.Table.{refuseIf, firstOf}
 use Rattle.refusal.specs.declared.Refusal.{Refusal}
@@ -34,8 +33,9 @@ use Rattle.claims_streams.specs.Held.{cellAfter, writes, HoldsCell}
 use Rattle.claims_streams.specs.CallDemand1.{sizesIn}
 use Rattle.claims_streams.proofs.Accepting.{refuseIf-false, firstOf-all-none}
 use Rattle.claims_streams.proofs.Cells.{poseAt-put, getD-put-before, getD-put-after, poseAt-agree, cells-apart, cell-inside}
-use Rattle.claims_streams.proofs.Sound.{Sound, sound-of-possible, has-sizes, within-limits}
+use Rattle.claims_streams.proofs.Sound.{Sound, has-sizes, within-limits}
 use Rattle.claims_streams.proofs.Edits.Law.{GoesOn, FiniteCell, EditLaw}
+use Rattle.claims_streams.proofs.Edits.Cell.{OfCell, this, not-this, of-cell, each-set, set-elsewhere, holds-same}
 
 -- ---- when it is accepted
 
@@ -103,39 +103,16 @@ module _ (s : Session) (view camera : ℕ) (p : Pose) where
 
 -- ---- bits and floats
 
--- What holds of every element, and of a new one, holds after the new one is stored.
-each-set : (P : ℕ → Type 0) (l : List ℕ) (c m i : ℕ) → P (getD l i 0) → (i ≡ c → P m) → P (getD (set l c m) i 0)
-each-set P l c m i old new = go (ℕ-discrete i c) (decLt c (length l))
-  where
-    go : Dec (i ≡ c) → Dec (c < length l) → P (getD (set l c m) i 0)
-    go (no d) k = rw (getD-set-other l c i m 0 d) old
-    go (yes e) (yes k) = rw (e, getD-set-same l c m 0 k) (new e)
-    go (yes e) (no k) = rw (set-out l c m (omega arith)) old
-
 -- The bit of one cell set, which was clear.
 module _ (masks : List ℕ) (view camera : ℕ) (inside : camera < length masks) (clear : inMask (getD masks camera 0) view ≡ false) where
   abbrev marked : List ℕ
   marked = set masks camera (getD masks camera 0 + 2 ^ view)
 
-  mask-here : getD marked camera 0 ≡ getD masks camera 0 + 2 ^ view
-  mask-here = getD-set-same masks camera (getD masks camera 0 + 2 ^ view) 0 inside
-
   pub bit-here : inMask (getD marked camera 0) view ≡ true
-  bit-here = rw mask-here (inMask-plus-same (getD masks camera 0) view clear)
+  bit-here = rw (getD-set-same masks camera (getD masks camera 0 + 2 ^ view) 0 inside) (inMask-plus-same (getD masks camera 0) view clear)
 
   pub bit-elsewhere : (v c : ℕ) → (v ≡ view → c ≡ camera → ⊥) → inMask (getD marked c 0) v ≡ inMask (getD masks c 0) v
-  bit-elsewhere v c other = go (ℕ-discrete c camera)
-    where
-      go : Dec (c ≡ camera) → inMask (getD marked c 0) v ≡ inMask (getD masks c 0) v
-      go (yes e) = rw (e, mask-here) (inMask-plus-other (getD masks camera 0) view clear v (λ f. other f e))
-      go (no n) = ap (λ (m : ℕ). inMask m v) (getD-set-other masks camera c (getD masks camera 0 + 2 ^ view) 0 n)
-
--- The same bit and the same floats hold the same.
-holds-same : (masks masks′ : List ℕ) (buffer buffer′ : List Float) (v c : ℕ) (o : Option Pose)
-    → inMask (getD masks′ c 0) v ≡ inMask (getD masks c 0) v → poseAt buffer′ (cellStart v c) ≡ poseAt buffer (cellStart v c)
-    → HoldsCell masks buffer v c o → HoldsCell masks′ buffer′ v c o
-holds-same masks masks′ buffer buffer′ v c none bit floats h = bit ∙ h
-holds-same masks masks′ buffer buffer′ v c (some p) bit floats (set, same) = (bit ∙ set, floats ∙ same)
+  bit-elsewhere = set-elsewhere masks view camera (getD masks camera 0 + 2 ^ view) inside (inMask-plus-other (getD masks camera 0) view clear)
 
 -- ---- which cells it names
 
@@ -150,18 +127,11 @@ module _ (view camera : ℕ) (p : Pose) where
 
   named : (v c : ℕ) → Named v c
   unfolding writes cellAfter
-  named v c = go (ℕ-discrete v view) (ℕ-discrete c camera)
+  named v c = go (of-cell view camera v c)
     where
-      go : Dec (v ≡ view) → Dec (c ≡ camera) → Named v c
-      go (yes e) (yes f) =
-          let both : eqb view v && eqb camera c ≡ true = rw (eq-eqb view v (sym e), eq-eqb camera c (sym f)) refl in
-          this-cell e f both (λ o. ap (λ (b : Bool). cond b (some p) o) both)
-      go (no e) f =
-          let neither : eqb view v && eqb camera c ≡ false = rw (ne-eqb view v (λ q. e (sym q))) refl in
-          another (λ q _. e q) neither (λ o. ap (λ (b : Bool). cond b (some p) o) neither)
-      go (yes e) (no f) =
-          let neither : eqb view v && eqb camera c ≡ false = rw (eq-eqb view v (sym e), ne-eqb camera c (λ q. f (sym q))) refl in
-          another (λ _ q. f q) neither (λ o. ap (λ (b : Bool). cond b (some p) o) neither)
+      go : OfCell view camera v c → Named v c
+      go (this e f both) = this-cell e f both (λ o. ap (λ (b : Bool). cond b (some p) o) both)
+      go (not-this other neither) = another other neither (λ o. ap (λ (b : Bool). cond b (some p) o) neither)
 
   -- ---- the law
 
@@ -267,6 +237,13 @@ module _ (view camera : ℕ) (p : Pose) where
       go (this-cell same-view same-camera _ _) = rw (same-view, same-camera) (place-accepted s view camera p e .not-held)
       go (another _ not-named _) = absurd (true≢false (sym names ∙ not-named))
 
+  holds-written : (v c : ℕ) → writes change v c ≡ true → (o : Option Pose) → (q : Pose) × (cellAfter change v c o ≡ some q)
+  holds-written v c names o = go (named v c)
+    where
+      go : Named v c → (q : Pose) × (cellAfter change v c o ≡ some q)
+      go (this-cell _ _ _ now) = (p, now o)
+      go (another _ not-named _) = absurd (true≢false (sym names ∙ not-named))
+
   only-other : (v c : ℕ) → writes change v c ≡ false → v ≡ view → c ≡ camera → ⊥
   only-other v c names same-view same-camera = go (named v c)
     where
@@ -287,5 +264,6 @@ module _ (view camera : ℕ) (p : Pose) where
         cells-after = cells-after;
         finite-after = finite-after;
         into-empty = into-empty;
+        holds-written = holds-written;
         others-kept = λ s buffer e sound fits v c h names. others-kept s buffer e sound fits v c h (only-other v c names);
       }

@@ -86,5 +86,6 @@ module _ (views cameras reference : ℕ) where
         cells-after = λ s buffer e sound sixteen fits v c o h before. before;
         finite-after = λ s e v c o before. before;
         into-empty = λ s e v c names. absurd (false≢true names);
+        holds-written = λ v c names o. absurd (false≢true names);
         others-kept = λ s buffer e sound fits v c h names k l. refl;
       }

@@ -4,9 +4,9 @@ use mathlib.Core.Path.{_≡_}
 use mathlib.Core.Option.{Option, none, some}
 use mathlib.Core.List.{List}
 use lib.ListN.{length, getD}
-use Rattle.command.specs.Command.{Edit, size, place, edit, solve, sizeWidth, poseWidth, solveWidth, complete, broken, unknown, parse, offeredPose}
+use Rattle.command.specs.Command.{Edit, size, place, withdraw, edit, solve, sizeWidth, poseWidth, solveWidth, withdrawWidth, complete, broken, unknown, parse, offeredPose}
 use Rattle.command.specs.declared.parse.Parsed.{Parsed}
-use Rattle.command.specs.declared.parse.Parsed.the-variants.{Size, Place, Solve, Broken, Unknown}
+use Rattle.command.specs.declared.parse.Parsed.the-variants.{Size, Place, Withdraw, Solve, Broken, Unknown}
 
 -- Four bytes from `at`, low byte first.
 abbrev pub halfAt : List ℕ → ℕ → ℕ
@@ -28,10 +28,14 @@ sizeAt stream at = size (getD stream (at + 1) 0) (getD stream (at + 2) 0) (getD 
 abbrev pub placeAt : List ℕ → ℕ → Edit
 placeAt stream at = place (getD stream (at + 1) 0) (getD stream (at + 2) 0) (offeredPose stream (at + 3))
 
+abbrev pub withdrawAt : List ℕ → ℕ → Edit
+withdrawAt stream at = withdraw (getD stream (at + 1) 0) (getD stream (at + 2) 0)
+
 -- What each answer of `parse` says of the stream: a whole command has all its operands there.
 abbrev pub ParsedAs : List ℕ → ℕ → Parsed → Type 0
 ParsedAs stream at Size = (parse stream at ≡ complete (edit (sizeAt stream at)) sizeWidth) × (at + sizeWidth ≤ length stream)
 ParsedAs stream at Place = (parse stream at ≡ complete (edit (placeAt stream at)) poseWidth) × (at + poseWidth ≤ length stream)
+ParsedAs stream at Withdraw = (parse stream at ≡ complete (edit (withdrawAt stream at)) withdrawWidth) × (at + withdrawWidth ≤ length stream)
 ParsedAs stream at Solve = parse stream at ≡ complete solve solveWidth
 ParsedAs stream at Broken = parse stream at ≡ broken
 ParsedAs stream at (Unknown byte) = parse stream at ≡ unknown byte

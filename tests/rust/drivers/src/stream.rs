@@ -1,5 +1,5 @@
-//! Streams of commands: what each call must answer, from document 01, "A stream arrives", with the Rust under Solve; and streams made at
-//! random, and damaged.
+//! Streams of commands: what each call must answer, from document 01, "A stream arrives", and document 02's change 1, with the Rust under
+//! Solve; and streams made at random, and damaged.
 
 use crate::grid::{near_identity, pose, Grid, Pose, MAX_CAMERAS, MAX_VIEWS, POSE_FLOATS};
 use crate::oracle::{verdict, Verdict};
@@ -44,8 +44,17 @@ impl State {
 
     /// Where the poses that are held begin in the buffer.
     pub fn held_starts(&self) -> Vec<usize> {
+        self.starts(|held| held)
+    }
+
+    /// Where the cells that hold no pose begin there.
+    pub fn empty_starts(&self) -> Vec<usize> {
+        self.starts(|held| !held)
+    }
+
+    fn starts(&self, which: impl Fn(bool) -> bool) -> Vec<usize> {
         let cells = (0..MAX_VIEWS).flat_map(|view| (0..MAX_CAMERAS).map(move |camera| (view, camera)));
-        cells.filter(|&(view, camera)| self.holds(view, camera)).map(|(view, camera)| cell_start(view, camera)).collect()
+        cells.filter(|&(view, camera)| which(self.holds(view, camera))).map(|(view, camera)| cell_start(view, camera)).collect()
     }
 
     /// Whether accepted commands can leave the record.
@@ -71,7 +80,8 @@ impl State {
     }
 }
 
-fn cell_start(view: usize, camera: usize) -> usize {
+/// Where a cell's seven floats begin in the buffer.
+pub fn cell_start(view: usize, camera: usize) -> usize {
     POSE_FLOATS * (view * MAX_CAMERAS + camera)
 }
 
@@ -90,7 +100,7 @@ fn refusal(number: u32, detail: usize) -> u64 {
     (number as u64) << 32 | detail as u64
 }
 
-/// One call, as document 01 has it, on the state that it changes.
+/// One call, as documents 01 and 02 have it, on the state that it changes.
 pub fn call(state: &mut State, stream: &[u8], at: usize) -> Answer {
     let end = stream.len();
     let stop = |number, detail| Answer { code: refusal(number, detail), next: end };
@@ -114,6 +124,7 @@ pub fn call(state: &mut State, stream: &[u8], at: usize) -> Answer {
         1 => 4,
         2 => 59,
         3 => 1,
+        4 => 3,
         _ => return stop(10, byte as usize),
     };
     let Some(command) = stream.get(at..at + width) else {
@@ -122,6 +133,7 @@ pub fn call(state: &mut State, stream: &[u8], at: usize) -> Answer {
     let code = match byte {
         1 => size(state, command),
         2 => place(state, command),
+        4 => withdraw(state, command),
         _ => solve(state),
     };
     Answer { code, next: at + width }
@@ -164,6 +176,23 @@ fn place(state: &mut State, command: &[u8]) -> u64 {
     state.record[camera] |= 1 << view;
     let at = cell_start(view, camera);
     state.buffer[at..at + POSE_FLOATS].copy_from_slice(&offered);
+    ACCEPTED
+}
+
+fn withdraw(state: &mut State, command: &[u8]) -> u64 {
+    if state.views() == 0 {
+        return refusal(21, 0);
+    }
+    let [_, view, camera] = *command else { unreachable!() };
+    let (view, camera) = (view as usize, camera as usize);
+    let named = view * 256 + camera;
+    if view >= state.views() || camera >= state.cameras() {
+        return refusal(12, named);
+    }
+    if !state.holds(view, camera) {
+        return refusal(24, named);
+    }
+    state.record[camera] &= !(1 << view);
     ACCEPTED
 }
 
@@ -279,7 +308,12 @@ pub fn solve_command(stream: &mut Vec<u8>) {
     stream.push(3);
 }
 
-/// A stream of good commands, mostly: few views and cameras, poses in any order, Solve at the end and at times before.
+pub fn withdraw_command(stream: &mut Vec<u8>, view: usize, camera: usize) {
+    stream.extend([4, view as u8, camera as u8]);
+}
+
+/// A stream of good commands, mostly: few views and cameras, poses in any order, some of them taken back and most of those sent again, Solve at the
+/// end and at times before.
 pub fn random_stream(random: &mut Random, most_views: usize, most_cameras: usize) -> Vec<u8> {
     let (views, cameras) = (random.between(1, most_views), random.between(1, most_cameras));
     let mut stream = Vec::new();
@@ -287,16 +321,43 @@ pub fn random_stream(random: &mut Random, most_views: usize, most_cameras: usize
     let mut cells: Vec<usize> = (0..views * cameras).collect();
     random.shuffle(&mut cells);
     let kept = if random.once_in(2) { cells.len() } else { random.between(0, cells.len()) };
-    let hard = random.once_in(4);
-    for &cell in &cells[..kept] {
-        let kinds: Vec<usize> = if hard { (0..12).collect() } else { vec![0, 1] };
+    let kinds: Vec<usize> = if random.once_in(4) { (0..12).collect() } else { vec![0, 1] };
+    let offer = |random: &mut Random, stream: &mut Vec<u8>, cell: usize| {
         let offered = if random.once_in(3) { near_identity(random) } else { pose(random, &kinds) };
-        pose_command(&mut stream, cell / cameras, cell % cameras, offered);
+        pose_command(stream, cell / cameras, cell % cameras, offered);
+    };
+    let mut taken_back = Vec::new();
+    for (sent, &cell) in cells[..kept].iter().enumerate() {
+        offer(random, &mut stream, cell);
         if random.once_in(12) {
             solve_command(&mut stream);
         }
+        if random.once_in(8) {
+            // Mostly a cell that was sent, and at times any: some are empty.
+            let back = cells[if random.once_in(6) { random.below(cells.len()) } else { random.between(0, sent) }];
+            withdraw_command(&mut stream, back / cameras, back % cameras);
+            if random.once_in(3) {
+                offer(random, &mut stream, back);
+            } else {
+                taken_back.push(back);
+            }
+        }
+    }
+    for back in taken_back {
+        if !random.once_in(3) {
+            offer(random, &mut stream, back);
+        }
     }
     solve_command(&mut stream);
+    if random.once_in(3) {
+        let back = cells[random.below(cells.len())];
+        withdraw_command(&mut stream, back / cameras, back % cameras);
+        solve_command(&mut stream);
+        if random.once_in(2) {
+            offer(random, &mut stream, back);
+            solve_command(&mut stream);
+        }
+    }
     if random.once_in(4) && kept < cells.len() {
         pose_command(&mut stream, cells[kept] / cameras, cells[kept] % cameras, near_identity(random));
         solve_command(&mut stream);
@@ -316,12 +377,12 @@ pub fn damage(random: &mut Random, stream: &mut Vec<u8>, other: &[u8]) {
         match random.below(10) {
             0 => stream[at] ^= 1 << random.below(8),
             1 => stream[at] = random.bits() as u8,
-            2 => stream[at] = random.below(4) as u8,
+            2 => stream[at] = random.below(6) as u8,
             3 => stream.truncate(at),
             4 => {
                 stream.remove(at);
             }
-            5 => stream.insert(at, random.below(5) as u8),
+            5 => stream.insert(at, random.below(6) as u8),
             6 => {
                 let end = random.between(at, length);
                 stream.drain(at..end);
@@ -336,16 +397,21 @@ pub fn damage(random: &mut Random, stream: &mut Vec<u8>, other: &[u8]) {
                 let part = other[from..random.between(from, other.len())].to_vec();
                 stream.splice(at..at, part);
             }
-            // A whole command more, of any kind, where a command may begin.
+            // A whole command more, of any kind, where a command may begin; at the end at times a part of one.
             _ => {
                 let mut command = Vec::new();
-                match random.below(4) {
+                match random.below(6) {
                     0 => size_command(&mut command, random.below(70), random.below(20), random.below(20)),
                     1 => solve_command(&mut command),
                     2 => pose_command(&mut command, random.below(70), random.below(20), near_identity(random)),
-                    _ => pose_command(&mut command, random.below(3), random.below(3), [f64::NAN; POSE_FLOATS]),
+                    3 => pose_command(&mut command, random.below(3), random.below(3), [f64::NAN; POSE_FLOATS]),
+                    4 => withdraw_command(&mut command, random.below(70), random.below(20)),
+                    _ => withdraw_command(&mut command, random.below(3), random.below(3)),
                 }
-                let at = if random.once_in(2) { 4.min(length) } else { length };
+                let at = [0, 4.min(length), length, length][random.below(4)];
+                if at == length && random.once_in(3) {
+                    command.truncate(random.between(1, command.len()));
+                }
                 stream.splice(at..at, command);
             }
         }

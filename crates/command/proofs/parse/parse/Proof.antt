@@ -2,7 +2,7 @@
 use native.Mathlib.Omega.{arith}
 use mathlib.Core.Path.{sym, _∙_}
 use borrow.Author.Needs.{needs}
-use Rattle.command.proofs.Decoding.{parse-foreign, parse-short, parse-size, parse-place, parse-solve}
+use Rattle.command.proofs.Decoding.{parse-foreign, parse-short, parse-size, parse-place, parse-withdraw, parse-solve}
 use Rattle.command.proofs.parse.parse.Statement.{statement}
 use Rattle.command.proofs.parse.parse.Tie as tie
 
@@ -32,10 +32,16 @@ returns-4 c =
 
 returns-5 : tie.Need-returns-5
 returns-5 c =
-    let s = c .before .before .before .before in
+    let s = c .before .before .before .before .before in
     let a = s .before .before .before .args in
-    parse-solve (a .stream .now) (a .at) (c .before .if3 .left) (c .if4 .left) (λ e. c .before .before .before .if1 .left (s .width-of .ensures ∙ e))
-    (omega (arith, s .width-of .ensures, c .before .before .if2 .left))
+    parse-withdraw (a .stream .now) (a .at) (c .if5 .taken) (omega (arith, s .width-of .ensures, c .before .before .before .if2 .left))
+
+returns-6 : tie.Need-returns-6
+returns-6 c =
+    let s = c .before .before .before .before .before in
+    let a = s .before .before .before .args in
+    parse-solve (a .stream .now) (a .at) (c .before .before .if3 .left) (c .before .if4 .left) (c .if5 .left)
+    (λ e. c .before .before .before .before .if1 .left (s .width-of .ensures ∙ e)) (omega (arith, s .width-of .ensures, c .before .before .before .if2 .left))
 
 pub parse-spec : {M : Type 1} → statement M
 parse-spec =
@@ -48,4 +54,5 @@ parse-spec =
     returns-2
     returns-3
     returns-4
-    returns-5)
+    returns-5
+    returns-6)

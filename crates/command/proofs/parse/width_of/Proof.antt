@@ -19,10 +19,14 @@ returns-3 c = rw (c .match .keys3) refl
 
 returns-4 : tie.Need-returns-4
 unfolding widthOf
-returns-4 c =
+returns-4 c = rw (c .match .keys4) refl
+
+returns-5 : tie.Need-returns-5
+unfolding widthOf
+returns-5 c =
     let byte = c .before .args .byte in
     let none = c .match .rest in
-    rw (ne-eqb byte 1 (none .0 .0 .1), ne-eqb byte 2 (none .0 .1), ne-eqb byte 3 (none .1)) refl
+    rw (ne-eqb byte 1 (none .0 .0 .0 .1), ne-eqb byte 2 (none .0 .0 .1), ne-eqb byte 3 (none .0 .1), ne-eqb byte 4 (none .1)) refl
 
 pub width-of-spec : {M : Type 1} → statement M
-width-of-spec = tie.close (tie.spec returns returns-2 returns-3 returns-4)
+width-of-spec = tie.close (tie.spec returns returns-2 returns-3 returns-4 returns-5)

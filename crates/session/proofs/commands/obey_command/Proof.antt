@@ -41,6 +41,27 @@ obey-pose-requires c κs =
     let ready = call-passed t (a .stream .now) (a .at) (c .before .before .before .before .before .before .before .before .pre .0) in
     (found .1, ready .buffer-fits, ready .record-possible)
 
+shared-slice-read-obey-withdraw : tie.Need-shared-slice-read-obey-withdraw
+shared-slice-read-obey-withdraw c =
+    let e = c .before in
+    let a = e .before .before .before .before .before .before .before .args in
+    let found = subst (ParsedAs (a .stream .now) (a .at)) (e .enum-told3 .given .1) (e .before .before .parse .ensures) in
+    omega arith
+
+shared-slice-read-obey-withdraw-2 : tie.Need-shared-slice-read-obey-withdraw-2
+shared-slice-read-obey-withdraw-2 c =
+    let e = c .before .before in
+    let a = e .before .before .before .before .before .before .before .args in
+    let found = subst (ParsedAs (a .stream .now) (a .at)) (e .enum-told3 .given .1) (e .before .before .parse .ensures) in
+    omega arith
+
+obey-withdraw-requires : tie.Need-obey-withdraw-requires
+obey-withdraw-requires c κs =
+    let s = c .before .before .before .before .before .before .before .before .before in
+    let a = s .args in
+    let t = state (a .session) (a .buffer .now) (a .transforms .now) (a .chains .now) in
+    call-passed t (a .stream .now) (a .at) (s .pre .0) .record-possible
+
 obey-solve-requires : tie.Need-obey-solve-requires
 obey-solve-requires c κs =
     let s = c .before .before .before .before .before .before .before .before .before .before in
@@ -49,8 +70,8 @@ obey-solve-requires c κs =
     let ready = call-passed t (a .stream .now) (a .at) (s .pre .0) in
     (ready .record-possible, ready .buffer-fits, ready .first-fits, ready .second-fits)
 
-cast-t30 : tie.Need-cast-t30
-cast-t30 c =
+cast-t37 : tie.Need-cast-t37
+cast-t37 c =
     let s = c .before .before .before .before .before .before .before in
     let a = s .args in
     let t = state (a .session) (a .buffer .now) (a .transforms .now) (a .chains .now) in
@@ -75,22 +96,30 @@ returns-2 c =
 
 returns-3 : tie.Need-returns-3
 returns-3 c =
-    let e = c .before .before .before .before .before .before .before .before in
+    let e = c .before .before .before in
     let a = e .before .before .before .before .before .before .before .args in
     let found = subst (ParsedAs (a .stream .now) (a .at)) (e .enum-told3 .given .1) (e .before .before .parse .ensures) in
     let t = state (a .session) (a .buffer .now) (a .transforms .now) (a .chains .now) in
-    c .before .before .before .before .obey-solve .ensures ∙ sym (read-complete t (a .stream .now) (a .at) _ _ found)
+    c .obey-withdraw .ensures (a .buffer .now) (a .transforms .now) (a .chains .now) ∙ sym (read-complete t (a .stream .now) (a .at) _ _ (found .0))
 
 returns-4 : tie.Need-returns-4
 returns-4 c =
-    let e = c .before in
+    let e = c .before .before .before .before .before .before .before .before in
     let a = e .before .before .before .before .before .before .before .args in
     let found = subst (ParsedAs (a .stream .now) (a .at)) (e .enum-told4 .given .1) (e .before .before .parse .ensures) in
     let t = state (a .session) (a .buffer .now) (a .transforms .now) (a .chains .now) in
-    ap (λ (x : Step). resultOf x (a .buffer .now) (a .transforms .now) (a .chains .now)) (c .refuse .ensures) ∙ sym (read-broken t (a .stream .now) (a .at) found)
+    c .before .before .before .before .obey-solve .ensures ∙ sym (read-complete t (a .stream .now) (a .at) _ _ found)
 
 returns-5 : tie.Need-returns-5
 returns-5 c =
+    let e = c .before in
+    let a = e .before .before .before .before .before .before .before .args in
+    let found = subst (ParsedAs (a .stream .now) (a .at)) (e .enum-told5 .given .1) (e .before .before .parse .ensures) in
+    let t = state (a .session) (a .buffer .now) (a .transforms .now) (a .chains .now) in
+    ap (λ (x : Step). resultOf x (a .buffer .now) (a .transforms .now) (a .chains .now)) (c .refuse .ensures) ∙ sym (read-broken t (a .stream .now) (a .at) found)
+
+returns-6 : tie.Need-returns-6
+returns-6 c =
     let e = c .before .before in
     let a = e .before .before .before .before .before .before .before .args in
     let found = subst (ParsedAs (a .stream .now) (a .at)) (e .byte .given .1) (e .before .before .parse .ensures) in
@@ -115,9 +144,16 @@ obey-command-spec =
     obey-pose-requires
     (λ c. search needs)
     (λ c. search needs)
+    shared-slice-read-obey-withdraw
+    (λ c. search needs)
+    shared-slice-read-obey-withdraw-2
+    (λ c. search needs)
+    obey-withdraw-requires
+    (λ c. search needs)
+    (λ c. search needs)
     obey-solve-requires
     (λ c. search needs)
-    cast-t30
+    cast-t37
     (λ c κs. search needs)
     (λ c. search needs)
     (λ c. search needs)
@@ -125,9 +161,10 @@ obey-command-spec =
     returns
     (λ c. search needs)
     returns-2
-    (λ c. search needs)
-    (λ c. search needs)
-    (λ c. search needs)
     returns-3
+    (λ c. search needs)
+    (λ c. search needs)
+    (λ c. search needs)
     returns-4
-    returns-5)
+    returns-5
+    returns-6)

@@ -62,6 +62,7 @@ fn main() {
     write("refusals", &mut |s, random| {
         solve_command(s);
         pose_command(s, 0, 0, STANDING);
+        withdraw_command(s, 0, 0);
         size_command(s, 0, 1, 0);
         size_command(s, 65, 1, 0);
         size_command(s, 1, 0, 0);
@@ -71,6 +72,9 @@ fn main() {
         size_command(s, 2, 2, 1);
         pose_command(s, 2, 0, STANDING);
         pose_command(s, 0, 2, STANDING);
+        withdraw_command(s, 2, 0);
+        withdraw_command(s, 0, 2);
+        withdraw_command(s, 0, 0);
         pose_command(s, 0, 0, STANDING);
         pose_command(s, 0, 0, unit(random, 1.0));
         pose_command(s, 1, 1, [0.0, f64::NAN, 0.0, 0.0, 0.0, 0.0, 1.0]);
@@ -80,7 +84,7 @@ fn main() {
         solve_command(s);
         pose_command(s, 1, 1, STANDING);
         solve_command(s);
-        s.push(4);
+        s.push(9);
     });
     // Rotations that cancel, vanish and overflow.
     write("hard-numbers", &mut |s, _| {
@@ -110,4 +114,60 @@ fn main() {
             solve_command(s);
         });
     }
+    // A bumped target: one pose taken back, and sent again as it should be.
+    write("bumped", &mut |s, random| {
+        size_command(s, 4, 3, 1);
+        for view in 0..4 {
+            for camera in 0..3 {
+                pose_command(s, view, camera, if (view, camera) == (2, 0) { [1e3, -1e3, 1e3, 1.0, 0.0, 0.0, 0.0] } else { near_identity(random) });
+            }
+        }
+        solve_command(s);
+        withdraw_command(s, 2, 0);
+        solve_command(s);
+        pose_command(s, 2, 0, near_identity(random));
+        solve_command(s);
+    });
+    // Two halves that hang together by view 1 alone: without a pose of it the far half is not reached, and with that sent again it is. Then a view's only pose.
+    write("only-link", &mut |s, random| {
+        size_command(s, 4, 4, 0);
+        for (view, camera) in [(0, 0), (0, 1), (1, 1), (1, 2), (2, 2), (2, 3), (3, 3)] {
+            pose_command(s, view, camera, near_identity(random));
+        }
+        solve_command(s);
+        withdraw_command(s, 1, 1);
+        solve_command(s);
+        pose_command(s, 1, 1, near_identity(random));
+        solve_command(s);
+        withdraw_command(s, 3, 3);
+        solve_command(s);
+        withdraw_command(s, 3, 3);
+        pose_command(s, 3, 0, near_identity(random));
+        solve_command(s);
+    });
+    // Every pose of a rig taken back, twice, and all of them sent again.
+    write("all-taken-back", &mut |s, random| {
+        size_command(s, 2, 3, 2);
+        for _ in 0..2 {
+            for cell in 0..6 {
+                pose_command(s, cell / 3, cell % 3, unit(random, 1.0));
+            }
+            solve_command(s);
+            for cell in 0..6 {
+                withdraw_command(s, cell / 3, cell % 3);
+                withdraw_command(s, cell / 3, cell % 3);
+            }
+            solve_command(s);
+        }
+        for cell in 0..6 {
+            pose_command(s, cell / 3, cell % 3, unit(random, 1.0));
+        }
+        solve_command(s);
+    });
+    write("withdrawal-cut-off", &mut |s, _| {
+        size_command(s, 1, 1, 0);
+        pose_command(s, 0, 0, STANDING);
+        withdraw_command(s, 0, 0);
+        s.pop();
+    });
 }

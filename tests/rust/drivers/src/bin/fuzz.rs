@@ -1,4 +1,4 @@
-//! Feeds damaged streams to the library and to document 01's meaning of a stream with the Rust under Solve, call by call: `fuzz STREAMS SEED
+//! Feeds damaged streams to the library and to the papers' meaning of a stream with the Rust under Solve, call by call: `fuzz STREAMS SEED
 //! CORPUS`, or `fuzz STREAMS SEED CORPUS NUMBER` for one stream of such a run. After every call its answer, its next offset and all lent
 //! memory are compared: bit by bit, but for a NaN that a Solve wrote.
 
@@ -10,7 +10,7 @@ use std::process::exit;
 
 /// Lent memory or records that the call must refuse, at times; and an offset past the end.
 fn disturb(random: &mut Random, state: &mut State, length: usize, at: &mut usize) {
-    match random.below(10) {
+    match random.below(11) {
         0 => *at = length + random.between(1, 3),
         1 => state.record[random.below(RECORD_WORDS)] ^= 1 << random.below(64),
         2 => state.record[16 + random.below(3)] = random.bits() >> random.below(64),
@@ -24,6 +24,12 @@ fn disturb(random: &mut Random, state: &mut State, length: usize, at: &mut usize
         6 => state.buffer.push(any_nan(random)),
         7 => state.transforms.truncate(random.below(FIRST_FLOATS)),
         8 => state.chains.truncate(random.below(SECOND_BYTES)),
+        // No cell without a pose has a finite number: nothing may look at them.
+        9 => {
+            for at in state.empty_starts() {
+                state.buffer[at..at + POSE_FLOATS].fill(any_nan(random));
+            }
+        }
         // A pose that is held is no longer finite, so that a Solve must see it.
         _ => {
             let held = state.held_starts();
@@ -37,23 +43,34 @@ fn disturb(random: &mut Random, state: &mut State, length: usize, at: &mut usize
     }
 }
 
-/// How a call may end, where one number has two causes each by itself.
-const KINDS: [&str; 20] = [
-    "end", "accepted", "solved", "1", "2", "3", "5", "7 at Pose", "7 at Solve", "8", "9", "10", "11 within a command", "11 past the end", "12", "13",
-    "21 at Pose", "21 at Solve", "22", "23",
+/// How a call may end, where one number has two causes each by itself. What follows a withdrawal is what follows an accepted one in its stream.
+const KINDS: [&str; 29] = [
+    "end", "accepted", "withdrawn", "sent again", "solved", "solved after a withdrawal", "1", "2", "3", "5", "7 at Pose", "7 at Solve", "8",
+    "8 after a withdrawal", "9", "9 after a withdrawal", "10", "11 within a command", "11 within a withdrawal", "11 past the end", "12 at Pose",
+    "12 at Withdraw", "13", "21 at Pose", "21 at Solve", "21 at Withdraw", "22", "23", "24",
 ];
 
-fn kind(answer: Answer, stream: &[u8], at: usize) -> &'static str {
-    let at_pose = stream.get(at) == Some(&2);
+fn kind(answer: Answer, stream: &[u8], at: usize, withdrawn: &[[u8; 2]]) -> &'static str {
+    let (at_pose, at_withdraw) = (stream.get(at) == Some(&2), stream.get(at) == Some(&4));
+    let after = !withdrawn.is_empty();
     let name = match (answer.code, answer.code >> 32) {
         (END, _) => "end",
+        (ACCEPTED, _) if at_withdraw => "withdrawn",
+        (ACCEPTED, _) if at_pose && withdrawn.contains(&[stream[at + 1], stream[at + 2]]) => "sent again",
         (ACCEPTED, _) => "accepted",
+        (SOLVED, _) if after => "solved after a withdrawal",
         (SOLVED, _) => "solved",
         (_, 7) if at_pose => "7 at Pose",
         (_, 7) => "7 at Solve",
+        (_, 8) if after => "8 after a withdrawal",
+        (_, 9) if after => "9 after a withdrawal",
         (_, 11) if at > stream.len() => "11 past the end",
+        (_, 11) if at_withdraw => "11 within a withdrawal",
         (_, 11) => "11 within a command",
+        (_, 12) if at_pose => "12 at Pose",
+        (_, 12) => "12 at Withdraw",
         (_, 21) if at_pose => "21 at Pose",
+        (_, 21) if at_withdraw => "21 at Withdraw",
         (_, 21) => "21 at Solve",
         (_, number) => &number.to_string(),
     };
@@ -105,7 +122,7 @@ fn main() {
 
     let (mut calls, mut differences) = (0u64, 0u64);
     let mut kinds: BTreeMap<&str, u64> = BTreeMap::new();
-    let (mut ours, mut expected) = (State::fresh(), State::fresh());
+    let (mut ours, mut expected, mut spoilt) = (State::fresh(), State::fresh(), Vec::new());
     comparison_notices(&mut Random::new(seed, u64::MAX));
     let run = match only {
         Some(number) => number..number + 1,
@@ -136,6 +153,8 @@ fn main() {
         ours.clone_from(&expected);
         let mut at = 0;
         let mut disturbed = random.once_in(8);
+        // The cells that were taken back, view and camera each.
+        let mut withdrawn = Vec::new();
         let mut turns = 0;
         loop {
             if disturbed && random.once_in(6) {
@@ -146,7 +165,8 @@ fn main() {
             let answer = call(&mut expected, &stream, at);
             let answered = library(&mut ours, &stream, at);
             calls += 1;
-            *kinds.entry(kind(answer, &stream, at)).or_default() += 1;
+            let kind = kind(answer, &stream, at, &withdrawn);
+            *kinds.entry(kind).or_default() += 1;
             let last = answer.code == END || answer.next >= stream.len() || turns > 70_000;
             let written = written(&expected, answer);
             let fault = (answered != answer)
@@ -157,6 +177,18 @@ fn main() {
                 differences += 1;
                 println!("DIFFERENCE in stream {number} of seed {seed}, {} bytes, at offset {at}: {fault}", stream.len());
                 break;
+            }
+            if kind == "withdrawn" {
+                let [view, camera] = [stream[at + 1], stream[at + 2]];
+                withdrawn.push([view, camera]);
+                // The numbers of a cell that was taken back no longer matter: at times they are not finite any more.
+                if random.once_in(3) {
+                    let start = cell_start(view as usize, camera as usize);
+                    fill(random, &mut spoilt, POSE_FLOATS, 4);
+                    for state in [&mut ours, &mut expected] {
+                        state.buffer[start..start + POSE_FLOATS].copy_from_slice(&spoilt);
+                    }
+                }
             }
             if only.is_some() {
                 println!("{at}: {:x} {:x}, next {}", answer.code >> 32, answer.code as u32, answer.next);

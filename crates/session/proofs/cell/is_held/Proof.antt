@@ -5,8 +5,8 @@ use lib.Dec.{eqb}
 use lib.Bits.{and-mask}
 use borrow.Author.Needs.{needs}
 use Rattle.lists.specs.Masks.{inMask}
-use Rattle.session.proofs.pose.is_held.Statement.{statement}
-use Rattle.session.proofs.pose.is_held.Tie as tie
+use Rattle.session.proofs.cell.is_held.Statement.{statement}
+use Rattle.session.proofs.cell.is_held.Tie as tie
 
 returns : tie.Need-returns
 unfolding inMask
