@@ -25,12 +25,13 @@ extern "C" {
 #define PLACER_MAX_VIEWS 64
 #define PLACER_MAX_CAMERAS 16
 
-/* What a session is lent: the words of its record (a mask for each camera, then those named here), the doubles of its buffer, and both
- * answers. */
-#define PLACER_RECORD_WORDS 19
+/* What a session is lent: the words of its record (a mask for each camera, then those named here, and from PLACER_SHARED_WORD on 16 rows of 16 shared
+ * counts), the doubles of its buffer, and both answers. */
+#define PLACER_RECORD_WORDS 275
 #define PLACER_VIEWS_WORD 16
 #define PLACER_CAMERAS_WORD 17
 #define PLACER_REFERENCE_WORD 18
+#define PLACER_SHARED_WORD 19
 #define PLACER_BUFFER_FLOATS 7168
 #define PLACER_FIRST_FLOATS 560
 #define PLACER_SECOND_BYTES 32
@@ -53,9 +54,9 @@ enum placer_refusal {
     PLACER_EMPTY_VIEW = 9,        /* the lowest view without poses */
     PLACER_UNKNOWN_COMMAND = 10,  /* the byte */
     PLACER_TRUNCATED = 11,        /* the offset of the command that the stream ends within, at which to go on once it is longer; the length for an offset past the end */
-    PLACER_OUTSIDE_RIG = 12,      /* view * 256 + camera, of a cell outside the sizes */
+    PLACER_OUTSIDE_RIG = 12,      /* view * 256 + camera, of a cell outside the sizes; first * 256 + second, of cameras asked for */
     PLACER_TOO_LONG = 13,         /* a stream of more than 65,536 bytes */
-    PLACER_NO_SIZE = 21,          /* Pose, Withdraw or Solve before an accepted Size */
+    PLACER_NO_SIZE = 21,          /* Pose, Withdraw, Solve or placer_shared before an accepted Size */
     PLACER_SIZE_AGAIN = 22,       /* Size after an accepted Size */
     PLACER_HELD_ALREADY = 23,     /* view * 256 + camera, of a cell that is held already */
     PLACER_NOT_HELD = 24          /* view * 256 + camera, of a cell to withdraw that holds no pose */
@@ -95,11 +96,14 @@ uint64_t placer_estimate(const uint32_t *counts, size_t counts_length, const uin
  *   0x03 Solve
  *   0x04 Withdraw: view, camera, one byte each: takes that cell's pose back
  * What a session holds is its record, `session`, of exactly PLACER_RECORD_WORDS words that are all 0 at first (one mask of views for each camera, bit v
- * for view v; then the views, the cameras and the reference), and its poses, `buffer`, of exactly PLACER_BUFFER_FLOATS
+ * for view v; then the views, the cameras and the reference; then, row by row, for cameras a and b at PLACER_SHARED_WORD + 16 * a + b, how many views hold
+ * poses of both, for a camera with itself how many hold one of it), and its poses, `buffer`, of exactly PLACER_BUFFER_FLOATS
  * doubles, a cell's seven from 7 * (view * 16 + camera), which the caller keeps from call to call and need not fill. Both answers have at
  * least PLACER_FIRST_FLOATS and PLACER_SECOND_BYTES. An accepted Size or Withdraw writes the record, an accepted Pose the record and the buffer, a
  * Solve that is obeyed both answers, and no call writes anything else but `next`: whoever saves record and buffer has saved the session.
- * Withdraw clears one bit of one mask. The cell's seven doubles stay in the buffer, where nothing looks at them until another Pose of the cell writes them.
+ * Withdraw clears one bit of one mask and counts down what it shared. The cell's seven doubles stay in the buffer, where nothing looks at them until
+ * another Pose of the cell writes them. A record is refused with 5 where its sizes, its reference, a mask or a shared count, one outside the sizes too, is
+ * not what accepted commands leave. A record of 19 words, from before shared counts were held, is made anew by sending its commands to a fresh one.
  * Refused: 13 and then 5 before all else; 10 and 11; 21 and 22; by Size its views by 1, then 2, its cameras by 1, then 2, then 3; 12, 23 and 7 by Pose;
  * 12 and 24 by Withdraw; 7, 8 and 9 by Solve. After 5, 10, 11 and 13 `next` is the stream's length, and after any other the offset of the next command.
  * Where a stream arrives in pieces, 11 means that the command at `at` is not whole yet: call again at the SAME offset with the longer
@@ -107,6 +111,11 @@ uint64_t placer_estimate(const uint32_t *counts, size_t counts_length, const uin
  * and a longer one is read from within the command. */
 uint64_t placer_step(uint64_t *session, size_t session_length, const uint8_t *stream, size_t stream_length, size_t at, double *buffer,
                      size_t buffer_length, double *transforms, size_t transforms_length, uint8_t *chains, size_t chains_length, size_t *next);
+
+/* How many views hold poses of both cameras, 0 to 64, and of a camera with itself how many hold one of it: the entry of a session's record. It writes
+ * nothing. Refused: 5 for words that no accepted commands leave, as by placer_step; 21 before an accepted Size; 12 where a camera is outside the sizes
+ * (detail first * 256 + second), in this order. A count is below 2^32, so placer_number tells it from a refusal: 0 is a count, of cameras that share no view. */
+uint64_t placer_shared(const uint64_t *record, size_t record_length, uint8_t first, uint8_t second);
 
 #ifdef __cplusplus
 }

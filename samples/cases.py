@@ -1,7 +1,8 @@
 """The cases of the program `test_session`: every refusal with its detail, every rule of order, and rigs that are solved.
 
-A case is a label, a record, an offset, the lengths of what is lent, and a stream. `encode` says how the program reads
-one, `expected` what it must print: for each call the next offset and the reply, and then the record.
+A case is a label, a record, an offset, the lengths of what is lent, two cameras to ask for, and a stream. `encode` says how
+the program reads one, `expected` what it must print: for each call the next offset and the reply, then the record with its
+summary of shared counts, and what the query answers for the two cameras.
 """
 
 import math
@@ -16,21 +17,25 @@ LISTING = size(1, 1, 0) + pose(0, 0, (1.0, 0.0, 0.0, 0.0, 0.0, 0.0, 1.0)) + SOLV
 
 
 class Case:
-    def __init__(self, label, stream, at=0, masks=(), views=0, cameras=0, reference=0, buffer=oracle.BUFFER, first=oracle.FIRST, second=oracle.SECOND):
+    """Where no summary is handed in, it is the one that the masks have; where no cameras are named, `cases` names two."""
+
+    def __init__(self, label, stream, at=0, masks=(), views=0, cameras=0, reference=0, buffer=oracle.BUFFER, first=oracle.FIRST, second=oracle.SECOND, shared=None, asked=None):
         self.label, self.stream, self.at = label, stream, at
         self.masks = list(masks) + [0] * (oracle.CAMERAS - len(masks))
         self.record = (views, cameras, reference)
         self.lengths = (buffer, first, second)
+        self.shared = oracle.counted(tuple(self.masks)) if shared is None else tuple(shared)
+        self.asked = asked
 
     def encode(self):
-        """A line of 64 bytes, 24 words of 64 bits, low byte first, and the stream."""
+        """A line of 64 bytes, 26 words of 64 bits, low byte first, the summary's 256 bytes, and the stream."""
         line = (self.label + ' ').ljust(63, '-').encode() + b'\n'
         assert len(line) == 64, self.label
-        words = [*self.masks, *self.record, self.at, *self.lengths, len(self.stream)]
-        return line + struct.pack('<24Q', *words) + self.stream
+        words = [*self.masks, *self.record, self.at, *self.lengths, len(self.stream), *self.asked]
+        return line + struct.pack('<26Q', *words) + bytes(self.shared) + self.stream
 
     def expected(self):
-        session = oracle.Session(self.masks, *self.record, *self.lengths)
+        session = oracle.Session(self.masks, *self.record, *self.lengths, self.shared)
         at, text = self.at, (self.label + ' ').ljust(63, '-') + '\n'
         while True:
             reply, at = session.call(self.stream, at)
@@ -38,7 +43,10 @@ class Case:
             if at >= len(self.stream):
                 break
         fields = (session.views, session.cameras, session.reference, *session.masks)
-        return text + 'record ' + ' '.join('%x' % f for f in fields) + '\n'
+        text += 'record ' + ' '.join('%x' % f for f in fields) + '\n'
+        text += 'shared ' + ' '.join('%x' % count for count in session.shared) + '\n'
+        answer = session.query(*self.asked)
+        return text + 'asked %d %d: %s' % (*self.asked, '%d\n' % answer if isinstance(answer, int) else oracle.lines(answer))
 
 
 # ---- sizes, and what comes before and after them
@@ -221,6 +229,124 @@ def sent_again_cases():
     yield Case('a parent changes with a withdrawal', rig_of(shared, 4, 4, 3, numbered) + withdraw(3, 1) + SOLVE + withdraw(1, 0) + SOLVE)
 
 
+# ---- shared counts: summaries handed in, the query, and the entries after commands
+
+SEEN = [0b11111, 0b00111, 0b10101, 0b01000]
+RECORD = {'views': 5, 'cameras': 4, 'reference': 1, 'masks': SEEN}
+FULL = {'views': 64, 'cameras': 16, 'masks': [2 ** 64 - 1] * 16}
+
+
+def true_counts(masks):
+    return oracle.counted(tuple(masks) + (0,) * (oracle.CAMERAS - len(masks)))
+
+
+def altered(masks, changes):
+    """The true counts, but for the entries of these pairs of cameras: what each becomes."""
+    counts = list(true_counts(masks))
+    for (first, second), change in changes.items():
+        counts[16 * first + second] = change(counts[16 * first + second]) % 256
+    return counts
+
+
+def more(count):
+    return count + 1
+
+
+def fewer(count):
+    return count - 1
+
+
+def summary_cases():
+    """Summaries handed in: each with a false entry is 5, for the stream and for the query, and each true one is taken."""
+    yield Case('a summary that is true', SOLVE, asked=(0, 2), **RECORD)
+    for label, place in [('the diagonal', (1, 1)), ('the upper half', (0, 2)), ('the lower half', (2, 0)), ('a pair that shares none', (3, 1)), ('the first entry', (0, 0))]:
+        for word, change in [('one more', more), ('one fewer', fewer), ('255', lambda count: 255)]:
+            yield Case('%s in %s' % (word, label), SOLVE, asked=place, shared=altered(SEEN, {place: change}), **RECORD)
+    for place in [(0, 4), (4, 0), (4, 4), (3, 15), (15, 3), (15, 15)]:
+        yield Case('an entry of cameras %d and %d, of four' % place, SOLVE, asked=(0, 0), shared=altered(SEEN, {place: more}), **RECORD)
+    for label, changes in [
+        ('one more in both entries of a pair', {(0, 1): more, (1, 0): more}),
+        ('one fewer in both entries of a pair', {(1, 2): fewer, (2, 1): fewer}),
+        ('one more here and one fewer there', {(0, 1): more, (0, 2): fewer}),
+        ('both entries of a pair outside the sizes', {(0, 4): more, (4, 0): more}),
+        ('the diagonal left out', {(c, c): lambda count: 0 for c in range(4)}),
+        ('the upper half left out', {(a, b): lambda count: 0 for a in range(4) for b in range(a + 1, 4)}),
+        ('the lower half left out', {(a, b): lambda count: 0 for a in range(4) for b in range(a)}),
+        ('one more in every entry', {(a, b): more for a in range(16) for b in range(16)}),
+    ]:
+        yield Case(label, SOLVE, asked=(0, 1), shared=altered(SEEN, changes), **RECORD)
+    yield Case('a summary of zeros, with poses', SOLVE, asked=(3, 2), shared=[0] * 256, **RECORD)
+    yield Case('the summary of two cameras swapped', SOLVE, asked=(1, 1), shared=true_counts([SEEN[0], SEEN[2], SEEN[1], SEEN[3]]), **RECORD)
+    yield Case('the summary of as many poses in other views', SOLVE, asked=(2, 1), shared=true_counts([SEEN[0], 0b01110, SEEN[2], SEEN[3]]), **RECORD)
+    yield Case('the summary of one view more', SOLVE, asked=(0, 0), shared=true_counts([0b111111] + SEEN[1:]), **RECORD)
+    for place in [(0, 0), (0, 1), (15, 15)]:
+        yield Case('a fresh record with an entry of %d and %d' % place, size(2, 2, 0), asked=(9, 9), shared=altered([], {place: more}))
+        yield Case('sizes without poses with an entry of %d and %d' % place, pose(0, 0, GOOD), views=2, cameras=2, asked=(0, 0), shared=altered([], {place: more}))
+    yield Case('64 in every entry', withdraw(63, 15), asked=(15, 0), **FULL)
+    for place in [(0, 0), (15, 15), (0, 15), (15, 0), (7, 8)]:
+        for word, change in [('65', more), ('63', fewer)]:
+            yield Case('%s in the entry of %d and %d, all others 64' % (word, *place), SOLVE, asked=place, shared=altered(FULL['masks'], {place: change}), **FULL)
+    # Its place among the faults.
+    false = {**RECORD, 'shared': altered(SEEN, {(0, 1): more})}
+    yield Case('a false entry goes before an offset past the end', SOLVE, at=5, asked=(0, 0), **false)
+    yield Case('a false entry goes before an unknown byte', bytes([9]), asked=(1, 0), **false)
+    yield Case('a false entry goes before the end', b'', asked=(1, 0), **false)
+    yield Case('a false entry goes before a withdrawal', withdraw(0, 0) + withdraw(0, 0), asked=(0, 1), **false)
+    yield Case('65537 bytes go before a false entry', LISTING.ljust(65537, b'\3'), asked=(0, 1), **false)
+
+
+def query_cases():
+    """The query: 5, 21, 12 with both cameras as its detail, in this order, and else the entry. What is lent beside the record is nothing to it."""
+    for asked in [(0, 0), (16, 0), (255, 255)]:
+        yield Case('cameras %d and %d of a fresh session' % asked, b'', asked=asked)
+        yield Case('cameras %d and %d after a refused size' % asked, size(0, 1, 0), asked=asked)
+        yield Case('cameras %d and %d with a reference alone' % asked, b'', asked=asked, reference=1)
+        yield Case('cameras %d and %d with a mask without sizes' % asked, b'', asked=asked, masks=[1])
+        yield Case('cameras %d and %d with a view past the last' % asked, b'', asked=asked, views=1, cameras=1, masks=[2])
+    for asked in [(4, 0), (0, 4), (4, 4), (3, 4), (4, 3), (15, 3), (0, 16), (16, 0), (1, 255), (255, 1), (255, 255)]:
+        yield Case('cameras %d and %d, of four' % asked, b'', asked=asked, **RECORD)
+    for asked in [(16, 16), (0, 16), (16, 0), (15, 16), (16, 15), (15, 17)]:
+        yield Case('cameras %d and %d, of sixteen' % asked, b'', asked=asked, **FULL)
+    for first in range(4):
+        for second in range(4):
+            yield Case('cameras %d and %d share' % (first, second), b'', asked=(first, second), **RECORD)
+    # Sixteen cameras of which no two pairs share as many views as another pair of neighbours.
+    stairs = [2 ** (4 * c + 4) - 1 for c in range(16)]
+    for asked in [(0, 0), (15, 15), (0, 15), (15, 0), (14, 15), (15, 14), (7, 8), (8, 7), (1, 0), (0, 1)]:
+        yield Case('cameras %d and %d of sixteen share' % asked, b'', asked=asked, views=64, cameras=16, masks=stairs)
+    yield Case('a query where a length does not fit', SOLVE, buffer=7167, asked=(0, 2), **RECORD)
+    yield Case('a query where the stream is too long', LISTING.ljust(65537, b'\3'), asked=(2, 0), **RECORD)
+
+
+def kept_cases():
+    """Records handed in with many poses: what each command leaves of the summary."""
+    yield Case('a pose counts for its own camera alone', pose(3, 2, GOOD) + pose(3, 3, GOOD), asked=(2, 2), views=5, cameras=4, masks=[1, 2, 4])
+    yield Case('a pose counts for those that saw its view', pose(3, 2, GOOD), asked=(2, 3), **RECORD)
+    yield Case('a refused pose counts for none', pose(3, 2, (math.nan,) * 7) + pose(0, 0, GOOD) + pose(5, 0, GOOD) + pose(0, 4, GOOD), asked=(2, 3), **RECORD)
+    yield Case('a withdrawal counts down', withdraw(2, 0), asked=(0, 1), **RECORD)
+    yield Case('a refused withdrawal counts none down', withdraw(3, 2) + withdraw(5, 0) + withdraw(0, 4), asked=(2, 0), **RECORD)
+    yield Case('a pose and its withdrawal', pose(3, 2, GOOD) + withdraw(3, 2), asked=(2, 3), **RECORD)
+    yield Case('every view of two cameras withdrawn', b''.join(withdraw(v, c) for v in range(64) for c in (3, 12)), asked=(3, 12), **FULL)
+    yield Case('the last of 64 views of a camera', pose(63, 15, GOOD), asked=(15, 14), views=64, cameras=16, masks=[2 ** 64 - 1] * 15 + [2 ** 63 - 1])
+    for camera in (0, 7, 15):
+        masks = [2 ** 64 - 1] * 16
+        masks[camera] = 0
+        yield Case('every view of camera %d sent' % camera, b''.join(pose(v, camera, GOOD) for v in range(64)), asked=(camera, 5), views=64, cameras=16, masks=masks)
+    numbers = random.Random(256)
+    for n in range(24):
+        views, cameras = (64, 16) if n % 4 == 0 else (numbers.randint(1, 64), numbers.randint(1, 16))
+        masks = [numbers.getrandbits(views) & numbers.getrandbits(views) if numbers.random() < 0.3 else numbers.getrandbits(views) for _ in range(cameras)]
+        record = {'views': views, 'cameras': cameras, 'reference': numbers.randrange(cameras), 'masks': masks}
+        stream = b''
+        for _ in range(numbers.randint(5, 40)):
+            v, c = numbers.randrange(views), numbers.randrange(cameras)
+            stream += pose(v, c, GOOD) if numbers.random() < 0.5 else withdraw(v, c)
+        asked = (numbers.randrange(cameras), numbers.randrange(cameras))
+        yield Case('poses sent and taken back of drawn record %d' % n, stream, asked=asked, **record)
+        place = (numbers.randrange(16), numbers.randrange(16))
+        yield Case('drawn record %d with a false entry' % n, stream, asked=asked, shared=altered(masks, {place: numbers.choice([more, fewer])}), **record)
+
+
 # ---- rigs
 
 def rig_of(cells, views, cameras, reference=0, numbers=lambda v, c: GOOD):
@@ -299,5 +425,9 @@ def drawn_withdrawal_cases():
 
 
 def cases():
-    for group in (size_cases, stream_cases, record_cases, pose_cases, rig_cases, drawn_cases, withdraw_cases, sent_again_cases, drawn_withdrawal_cases):
-        yield from group()
+    groups = (size_cases, stream_cases, record_cases, pose_cases, rig_cases, drawn_cases, withdraw_cases, sent_again_cases, drawn_withdrawal_cases, summary_cases, query_cases, kept_cases)
+    every = (case for group in groups for case in group())
+    for n, case in enumerate(every):
+        # Two of six cameras in turn: of small rigs some are outside.
+        case.asked = case.asked or (n % 6, n // 6 % 6)
+        yield case

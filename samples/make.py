@@ -3,7 +3,7 @@
 
     python3 samples/make.py
 
-writes samples/*.stream and samples/*.listing, and the files stdin and stdout of crates/rig and crates/test_session.
+writes samples/*.stream and samples/*.listing, the tables of samples/pairs.tables, and the files stdin and stdout of crates/rig and crates/test_session.
 
 A stream is a file for the program's standard input:  rig < samples/five_cameras.stream
 """
@@ -73,6 +73,47 @@ def bumped_stream():
     return stream
 
 
+# ---- three cameras of which each two are to share two views: a pose is taken back on the way, and the last two make up what is missing
+
+def pairs_stream():
+    def seen(view, camera):
+        """What a camera sees of a target, neither of them turned."""
+        return pose(view, camera, (0.5 * view - 0.25 * camera, 0.125 * view, 2.0, 0.0, 0.0, 0.0, 1.0))
+
+    sent = [(0, 0), (0, 1), (1, 1), (1, 2), (2, 0), (2, 1), (2, 2)]
+    stream = size(4, 3, 0) + b''.join(seen(*cell) for cell in sent)
+    return stream + SOLVE + withdraw(0, 1) + seen(0, 1) + seen(3, 0) + seen(3, 2) + SOLVE
+
+
+def tables(stream, fewest):
+    """What examples/c/shared.c prints for a stream of commands that are whole: after each accepted Pose and Withdraw the counts, and the pairs with too few."""
+    session, at, text = oracle.Session(), 0, ''
+    while at < len(stream):
+        command = stream[at:at + 3]
+        reply, at = session.call(stream, at)
+        if reply != 'accepted':
+            text += oracle.lines(reply) if len(reply) == 2 else 'solved\n'
+        elif command[0] != 1:
+            text += '%s of view %d, camera %d\n' % ({2: 'Pose', 4: 'Withdraw'}[command[0]], command[1], command[2])
+            text += table(session, fewest)
+    return text
+
+
+def table(session, fewest):
+    cameras = range(session.cameras)
+
+    def field(first, second):
+        count = session.query(first, second)
+        shown = '[%d]' % count if first == second else '%s%d ' % ('*' if count < fewest else '', count)
+        return shown.rjust(5)
+
+    rows = [' ' * 10 + ''.join(str(c).rjust(4) + ' ' for c in cameras)]
+    rows += ['camera %2d ' % first + ''.join(field(first, second) for second in cameras) for first in cameras]
+    short = ['%d and %d (%d)' % (a, b, session.query(a, b)) for a in cameras for b in cameras if a < b and session.query(a, b) < fewest]
+    rows.append('fewer than %d: %s' % (fewest, ', '.join(short)) if short else 'every two cameras share %d or more' % fewest)
+    return ''.join(row.rstrip() + '\n' for row in rows)
+
+
 # ---- a stream in which every second command is refused
 
 def refused_stream():
@@ -126,10 +167,11 @@ def write(path, data):
 
 
 def main():
-    streams = {'listing': listing_stream(), 'five_cameras': five_cameras_stream(), 'bumped': bumped_stream(), 'refused': refused_stream()}
+    streams = {'listing': listing_stream(), 'five_cameras': five_cameras_stream(), 'bumped': bumped_stream(), 'pairs': pairs_stream(), 'refused': refused_stream()}
     for name, stream in streams.items():
         write(name + '.stream', stream)
         write(name + '.listing', oracle.rig(stream).encode())
+    write('pairs.tables', tables(pairs_stream(), 2).encode())
     write('../crates/rig/stdin', program_stream())
     write('../crates/rig/stdout', oracle.rig(program_stream()).encode())
     write('../crates/test_session/stdin', b''.join(case.encode() for case in cases.cases()))

@@ -4,6 +4,7 @@ It shares nothing with the Rattle code. Python's floats are IEEE doubles and `ma
 printed bits can be compared digit by digit. `make.py` uses it to say what the samples and tests must print.
 """
 
+import functools
 import math
 import struct
 
@@ -139,20 +140,33 @@ def estimate(grid, reference):
 
 # ---- the session
 
-class Session:
-    """The record, the buffer beside it, and the lengths of what is lent."""
+@functools.lru_cache(maxsize=8)
+def counted(masks):
+    """For each two cameras how many views hold poses of both, row after row, and for a camera with itself how many hold one of it: from the held cells alone."""
+    held = [{v for v in range(VIEWS) if mask >> v & 1} if mask else set() for mask in masks]
+    return tuple(len(first & second) if first else 0 for first in held for second in held)
 
-    def __init__(self, masks=None, views=0, cameras=0, reference=0, buffer=BUFFER, first=FIRST, second=SECOND):
+
+class Session:
+    """The record, the buffer beside it, and the lengths of what is lent. Where no summary is handed in, it is the one that the masks have."""
+
+    def __init__(self, masks=None, views=0, cameras=0, reference=0, buffer=BUFFER, first=FIRST, second=SECOND, shared=None):
         self.masks = list(masks or [0] * CAMERAS)
         self.views, self.cameras, self.reference = views, cameras, reference
         self.buffer, self.first, self.second = buffer, first, second
+        self.shared = self.counted() if shared is None else tuple(shared)
         self.cells = {}
+
+    def counted(self):
+        return counted(tuple(self.masks))
 
     def possible(self):
         sizes = (self.views, self.cameras, self.reference)
         if sizes != (0, 0, 0) and size_refusal(*sizes) is not None:
             return False
-        return all(mask >> (self.views if c < self.cameras else 0) == 0 for c, mask in enumerate(self.masks))
+        if not all(mask >> (self.views if c < self.cameras else 0) == 0 for c, mask in enumerate(self.masks)):
+            return False
+        return self.shared == self.counted()
 
     def grid(self):
         zeros = (0.0,) * 7
@@ -196,6 +210,7 @@ class Session:
                 return (7, view * self.cameras + camera)
             self.masks[camera] |= 1 << view
             self.cells[view, camera] = pose
+            self.shared = self.counted()
             return 'accepted'
         if command[0] == 4:
             view, camera = command[1:3]
@@ -205,9 +220,20 @@ class Session:
                 return (24, view * 256 + camera)
             # The seven numbers stay where they are: without its bit nothing looks at the cell.
             self.masks[camera] &= ~(1 << view)
+            self.shared = self.counted()
             return 'accepted'
         refusal, solved = estimate(self.grid(), self.reference)
         return refusal or solved
+
+    def query(self, first, second):
+        """How many views two cameras share, or a camera's own poses: the entry, or a refusal."""
+        if not self.possible():
+            return (5, 0)
+        if self.views == 0:
+            return (21, 0)
+        if first >= self.cameras or second >= self.cameras:
+            return (12, first * 256 + second)
+        return self.shared[CAMERAS * first + second]
 
 
 # ---- the lines

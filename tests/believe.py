@@ -29,6 +29,9 @@ STATEMENTS = [
     ("the same, of the whole-stream entry", "claims_printing.Printed", "PartsAlike"),
     ("a pose taken back", "claims_streams.TakenBack", "PoseThenWithdrawal TakenBack"),
     ("what is printed", "claims_printing.Printed", "wholeOf freshState"),
+    ("the summary of shared counts", "claims_shared.Summaries", "Summarises holdsPose"),
+    ("demand 1, the query", "claims_shared.Queries", "QueryDemand1"),
+    ("the session without the summary", "claims_shared.Plain", "forgotten plainAnswer plainCalls plainLines"),
     ("the averaging entry", "claims_exports.Averages", "AverageDemand1"),
     ("the root", "root.Root", "IsRootOf"),
 ]
@@ -46,25 +49,27 @@ BESIDE = [
     ("command.Framing", "FramesEnd Follow SomeByte framesFrom"),
     ("command.Command", "commandsAt"),
     ("command.Writing", "bytesOf OfDoubles OfBytes"),
+    ("shared_query.Query", "sharedAnswer"),
     ("session.Call", "Called"),
     ("claims_direct.Encoding", "Agrees"),
     ("claims_streams.Stream", "Reads EndsAt struck earlier Usable lastState"),
     ("claims_exports.Averages", "RepliesDemand1"),
     ("claims_exports.Steps", "Steps freshWords"),
     ("claims_exports.InHand", "Bytes"),
+    ("claims_exports.SharedReplies", "SharedReplies LeftBySteps"),
     ("listing.Listing", "written listingBytes"),
     ("listing.Writing", "Front"),
     ("stream_text.StreamText", "ObeyedInto"),
     ("claims_printing.Printed", "wholeFrom roundsFrom inputBytes"),
     ("claims_printing.TextDemand", "TextDemand"),
     ("rig.AllObeyed", "AllObeyed"),
-    ("placer.Exports", "AveragedInto Estimated"),
+    ("placer.Exports", "AveragedInto Estimated sharedReply"),
     ("placer.Step", "Stepped"),
-    ("placer.Reading", "DirectReply CallReply NoRecordReply outcomeIn replyIn"),
+    ("placer.Reading", "DirectReply CallReply NoRecordReply outcomeIn replyIn sharedIn"),
     ("descriptors.Moved", "ReadWithin MovedWithin WrittenWhole"),
 ]
 # Rows are what definitions are checked against, and crates of tests are nobody's promise.
-CHECKS = re.compile(r"^(test_|claims_cases/|claims_rows/)|/Rows\.antt$|/Lib\.antt$|/Inner\.antt$")
+CHECKS = re.compile(r"^(test_|claims_cases/|claims_rows/|claims_summary_rows/)|/Rows\.antt$|/Lib\.antt$|/Inner\.antt$")
 
 USE = re.compile(r"^(?:pub )?use Rattle·([a-z_0-9]+?)(?:·specs)?\.specs\.([A-Za-z0-9_.-]+?)\.\{([^}]*)\}", re.M)
 START = re.compile(r"^\s*(?:(?:abbrev|unfoldable|pub) )*(?:(record|data) )?([^\s(){}:]+)(?: [^=]*?)? : ")

@@ -281,9 +281,21 @@ static void not_obeyed(const char *what, size_t at, enum placer_refusal number, 
     hold("a refused command wrote", unchanged());
 }
 
+/* Whether each of the 256 shared counts is what the record's masks have, counted view by view. */
+static int all_counted(void) {
+    for (int first = 0; first < PLACER_MAX_CAMERAS; first++)
+        for (int second = 0; second < PLACER_MAX_CAMERAS; second++) {
+            uint64_t views = 0;
+            for (int view = 0; view < PLACER_MAX_VIEWS; view++) views += lent.record[first] >> view & lent.record[second] >> view & 1;
+            if (lent.record[PLACER_SHARED_WORD + PLACER_MAX_CAMERAS * first + second] != views) return 0;
+        }
+    return 1;
+}
+
 static void obeyed(const char *what, size_t at, uint64_t reply, size_t next, unsigned written) {
     replies(what, step(at, written), reply);
     hold(what, lent.next == next);
+    hold("a shared count is not the masks'", all_counted());
 }
 
 /* A stream of one command. */
@@ -361,9 +373,11 @@ static void sessions(void) {
     lent.first_length = PLACER_FIRST_FLOATS;
     not_obeyed("no room for a byte", SIZE_MAX, PLACER_WRONG_LENGTH, 0, PLACER_MAX_STREAM);
     lent.second_length = PLACER_SECOND_BYTES;
-    lent.record[0] = 1;
+    lent.record[0] = 1, lent.record[PLACER_SHARED_WORD] = 1;
     not_obeyed("a pose without sizes", SIZE_MAX, PLACER_WRONG_LENGTH, 0, PLACER_MAX_STREAM);
     lent.record[0] = 0;
+    not_obeyed("a shared count without poses", SIZE_MAX, PLACER_WRONG_LENGTH, 0, PLACER_MAX_STREAM);
+    lent.record[PLACER_SHARED_WORD] = 0;
 
     /* 11 past the end, 10 and 11 within; 0 at the end. */
     memset(lent.stream, 0, sizeof lent.stream);
@@ -479,12 +493,102 @@ static void sessions(void) {
     hold("the end of nothing", lent.next == 0);
 }
 
+/* ---- shared counts, of the session above: camera 0 is held in views 0 and 2, camera 1 in all three */
+
+static uint64_t ask(uint8_t first, uint8_t second) {
+    lock(lent.record, sizeof lent.record);
+    uint64_t reply = CALL(placer_shared, .record = lent.record, .record_length = lent.record_length, .first = first, .second = second);
+    unlock(lent.record, sizeof lent.record);
+    return reply;
+}
+
+static void not_told(const char *what, uint8_t first, uint8_t second, enum placer_refusal number, uint32_t detail) { refuses(what, ask(first, second), number, detail); }
+
+/* Refused with 5 by the query, before 12, and by a command. */
+static void no_record(const char *what) {
+    not_told(what, 0, 0, PLACER_WRONG_LENGTH, 0);
+    not_told(what, CAMERAS, 255, PLACER_WRONG_LENGTH, 0);
+    solve();
+    not_obeyed(what, 0, PLACER_WRONG_LENGTH, 0, 1);
+}
+
+static void shared_counts(void) {
+    replies("camera 0's own poses", ask(0, 0), 2);
+    replies("camera 1's own poses", ask(1, 1), 3);
+    replies("what 0 and 1 share", ask(0, 1), 2);
+    replies("what 1 and 0 share", ask(1, 0), 2);
+    /* 12: the first camera, the second or both are outside. */
+    static const uint8_t outside[][2] = {{CAMERAS, 0}, {0, CAMERAS}, {CAMERAS, CAMERAS}, {1, 15}, {15, 1}, {0, 16}, {16, 0}, {0, 255}, {255, 0}, {255, 255}};
+    for (size_t n = 0; n < sizeof outside / sizeof *outside; n++)
+        not_told("a camera outside", outside[n][0], outside[n][1], PLACER_OUTSIDE_RIG, outside[n][0] * 256 + outside[n][1]);
+    /* 5: lengths of none, of 19, and one too short and too long, every false entry, one outside the sizes too, by one up and down and by 256, and the same in both entries of a pair. */
+    static const size_t lengths[] = {0, PLACER_SHARED_WORD, PLACER_RECORD_WORDS - 1, PLACER_RECORD_WORDS + 1};
+    for (size_t n = 0; n < sizeof lengths / sizeof *lengths; n++) {
+        lent.record_length = lengths[n];
+        no_record("a record of another length");
+    }
+    lent.record_length = PLACER_RECORD_WORDS;
+    static const uint64_t changes[] = {1, UINT64_MAX, 256};
+    for (size_t first = 0; first < PLACER_MAX_CAMERAS; first++)
+        for (size_t second = 0; second < PLACER_MAX_CAMERAS; second++)
+            for (size_t n = 0; n < sizeof changes / sizeof *changes; n++) {
+                uint64_t *const entry = &lent.record[PLACER_SHARED_WORD + PLACER_MAX_CAMERAS * first + second];
+                uint64_t *const other = &lent.record[PLACER_SHARED_WORD + PLACER_MAX_CAMERAS * second + first];
+                *entry += changes[n];
+                no_record("a false entry");
+                if (first < second) {
+                    *other += changes[n];
+                    no_record("a false pair of entries");
+                    *other -= changes[n];
+                }
+                *entry -= changes[n];
+            }
+    lent.record[PLACER_VIEWS_WORD] += 256;
+    no_record("259 views");
+    lent.record[PLACER_VIEWS_WORD] -= 256;
+    lent.record[PLACER_REFERENCE_WORD] = CAMERAS;
+    no_record("reference 2 of 2");
+    lent.record[PLACER_REFERENCE_WORD] = REFERENCE;
+    lent.record[0] |= 1 << VIEWS, lent.record[PLACER_SHARED_WORD]++, lent.record[1] |= 1 << VIEWS, lent.record[PLACER_SHARED_WORD + 17]++;
+    lent.record[PLACER_SHARED_WORD + 1]++, lent.record[PLACER_SHARED_WORD + 16]++;
+    hold("the counts of masks with a view too many", all_counted());
+    no_record("a view too many, truly counted");
+    /* 13 comes before 5. */
+    lent.stream_length = PLACER_MAX_STREAM + 1;
+    not_obeyed("65,537 bytes and a false entry", 0, PLACER_TOO_LONG, 0, PLACER_MAX_STREAM + 1);
+    /* 21, before 12 and after 5, of a fresh record. */
+    memset(lent.record, 0, sizeof lent.record);
+    not_told("no sizes", 0, 0, PLACER_NO_SIZE, 0);
+    not_told("no sizes, and cameras outside", 255, 255, PLACER_NO_SIZE, 0);
+    lent.record[PLACER_RECORD_WORDS - 1] = 1;
+    no_record("no sizes, and a false entry");
+    lent.record[PLACER_RECORD_WORDS - 1] = 0;
+    /* Sizes without poses; and the largest rig, every pose held: 64 in every entry. */
+    size(PLACER_MAX_VIEWS, PLACER_MAX_CAMERAS, 0);
+    obeyed("Size of the largest rig", 0, PLACER_ACCEPTED, SIZE_BYTES, RECORD);
+    replies("nothing is shared yet", ask(PLACER_MAX_CAMERAS - 1, 0), 0);
+    not_told("camera 16 of 16", 0, PLACER_MAX_CAMERAS, PLACER_OUTSIDE_RIG, PLACER_MAX_CAMERAS);
+    for (uint8_t view = 0; view < PLACER_MAX_VIEWS; view++)
+        for (uint8_t camera = 0; camera < PLACER_MAX_CAMERAS; camera++) {
+            pose(view, camera, rig_floats);
+            obeyed("Pose of the largest rig", 0, PLACER_ACCEPTED, POSE_BYTES, RECORD | BUFFER);
+        }
+    for (uint8_t camera = 0; camera < PLACER_MAX_CAMERAS; camera++) replies("64 views", ask(camera, PLACER_MAX_CAMERAS - 1 - camera), PLACER_MAX_VIEWS);
+    withdraw(PLACER_MAX_VIEWS - 1, PLACER_MAX_CAMERAS - 1);
+    obeyed("Withdraw of the last cell", 0, PLACER_ACCEPTED, WITHDRAW_BYTES, RECORD);
+    replies("its own poses", ask(PLACER_MAX_CAMERAS - 1, PLACER_MAX_CAMERAS - 1), PLACER_MAX_VIEWS - 1);
+    replies("what it shares", ask(0, PLACER_MAX_CAMERAS - 1), PLACER_MAX_VIEWS - 1);
+    replies("what others share", ask(0, PLACER_MAX_CAMERAS - 2), PLACER_MAX_VIEWS);
+    refuses("nothing at all", CALL(placer_shared, .record = NULL), PLACER_WRONG_LENGTH, 0);
+}
+
 int main(void) {
     signal(SIGSEGV, wrote);
     roots();
     averages();
     estimates();
     sessions();
+    shared_counts();
     for (size_t n = 0; n < sizeof every_refusal / sizeof *every_refusal; n++) hold("a refusal was never met", seen >> every_refusal[n] & 1);
     if (!failed) printf("%d calls, every refusal among them, as expected, in memory that is read-only where a call is not to write\n", calls);
     return failed;

@@ -19,7 +19,7 @@ same() { diff "$work/source-$1" "$work/header-$1" >"$work/differ" || { echo "hea
 
 # The number of a constant, those that it is made of worked out first; where there is none, or there are two, the numbers below differ.
 constant() {
-    worth=$(sed -n "s/^\(pub \)\{0,1\}const $1: usize = \(.*\);.*/\2/p" crates/limits/src/*.rt crates/averaging/src/*.rt crates/session_record/src/*.rt crates/session/src/*.rt crates/placer/src/*.rt)
+    worth=$(sed -n "s/^\(pub \)\{0,1\}const $1: usize = \(.*\);.*/\2/p" crates/limits/src/*.rt crates/averaging/src/*.rt crates/shared_counts/src/*.rt crates/session_record/src/*.rt crates/record_words/src/*.rt crates/session/src/*.rt crates/placer/src/*.rt)
     while part=$(echo "$worth" | grep -oE '[A-Z][A-Z_]+' | head -n 1) && [ -n "$part" ]; do
         number=$(constant "$part")
         worth=$(echo "$worth" | sed "s/$part/${number:-none}/g")
@@ -42,7 +42,8 @@ same numbers "placer.h"
 # ---- parameters
 
 floats=$(constant POSE_FLOATS)
-declared() { cat "$@" | tr -s ' \n' ' ' | grep -o 'pub extern "C" fn [a-z_]*([^)]*) -> [a-z0-9]*' | sed -E 's/pub extern "C" fn ([a-z_]*)\( ?([^)]*[^ ,]),? ?\)/\1(\2)/' | sort; }
+# `record` is a word of the logic, which no parameter of the sources can have for a name.
+declared() { cat "$@" | tr -s ' \n' ' ' | grep -o 'pub extern "C" fn [a-z_]*([^)]*) -> [a-z0-9]*' | sed -E 's/pub extern "C" fn ([a-z_]*)\( ?([^)]*[^ ,]),? ?\)/\1(\2)/; s/^placer_shared\(session/placer_shared(record/' | sort; }
 declared crates/placer/src/lib.rt | sed -E \
     -e 's/f64/double/g; s/u64/uint64_t/g; s/u32/uint32_t/g; s/u8/uint8_t/g; s/usize/size_t/g; s/Pose\]/struct rig_pose]/g' \
     -e 's/(.*) -> (.*)/\2 \1;/' \

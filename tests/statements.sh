@@ -1,6 +1,6 @@
 #!/bin/sh
 # Holds docs/STATEMENTS.md to the repository: every name that it gives in backticks is found in the crates, every file that it names is there,
-# every must-fail edit is named, the lines to believe are those that the papers quote, and the conditions on callers are those of the code.
+# every must-fail edit is named and every edit named is there, the lines to believe are those that the papers quote, and the conditions on callers are those of the code.
 set -eu
 cd "$(dirname "$0")/.."
 map=docs/STATEMENTS.md
@@ -9,6 +9,9 @@ there() { for one in "$@"; do [ -e "$one" ] && return 0; done; return 1; }
 say() { echo "statements: $*"; wrong=1; }
 for edit in crates/*/must-fail/*.edit; do
   grep -qw "$(basename "$edit" .edit)" "$map" || say "$edit is not named"
+done
+for edit in $(sed -n 's/.*|\([^|]*\)|$/\1/p' "$map" | sed 's/`[^`]*`//g' | grep -oE '\b[a-z0-9]+(_[a-z0-9]+)+\b' | sort -u); do
+  there crates/*/must-fail/"$edit".edit || say "no edit is called $edit"
 done
 for name in $(grep -o '`[^` ]*`' "$map" | tr -d '`' | sort -u); do
   case $name in

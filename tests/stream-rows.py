@@ -1,6 +1,7 @@
 #!/usr/bin/env python3
 """Runs the rows of crates/claims_rows/specs/Rows.antt: each row's stream through the program, and each row and call through the reading of
-the papers in samples/oracle.py, against the text that the row says. Rows from other states than a fresh session cannot be run through the
+the papers in samples/oracle.py, against the text that the row says; and those of crates/claims_summary_rows/specs/Rows.antt, records, summaries and queries,
+through the reading. Rows from other states than a fresh session cannot be run through the
 program, which always begins with one. Needs target/bin/rig, which `rt check rig` makes.
 """
 
@@ -17,7 +18,16 @@ import oracle
 
 PROGRAM = os.path.join(ROOT, 'target/bin/rig')
 SOURCE = os.path.join(ROOT, 'crates/claims_rows/specs/Rows.antt')
+SUMMARIES = os.path.join(ROOT, 'crates/claims_summary_rows/specs/Rows.antt')
 TOKEN = re.compile(r'\s+|--[^\n]*|("(?:[^"\\]|\\.)*"|[()]|∷|\+\+|[^\s()"]+)')
+
+
+def joined(rows):
+    return [entry for row in rows for entry in row + [0] * (16 - len(row))]
+
+
+def table(rows):
+    return joined(rows) + [0] * (256 - 16 * len(rows))
 
 
 # ---- the rows, read out of the file: numbers, texts, lists and the application of a definition
@@ -38,12 +48,17 @@ class Reader:
             'fresh': lambda steps: (None, steps),
             'lent': lambda buffer, first, second, steps: (oracle.Session(buffer=buffer, first=first, second=second), steps),
             'held': self.held,
+            'table': table,
+            'joined': joined,
+            'handed': lambda masks, shared, views, cameras, reference: oracle.Session(masks, views, cameras, reference, shared=shared),
+            'leaves': lambda bytes_, rows: (bytes(bytes_), tuple(table(rows))),
+            'asks': lambda session, first, second, told: (session, first, second, told),
             'calledAt': lambda offset, after, row: (offset, after, row),
         }
 
     @staticmethod
-    def held(numbers, masks, views, cameras, reference, steps):
-        session = oracle.Session(masks, views, cameras, reference, buffer=len(numbers))
+    def held(numbers, masks, shared, views, cameras, reference, steps):
+        session = oracle.Session(masks, views, cameras, reference, buffer=len(numbers), shared=shared)
         floats = [struct.unpack('<d', struct.pack('<Q', n))[0] for n in numbers]
         for cell in range(len(floats) // 7):
             session.cells[cell // 16, cell % 16] = tuple(floats[7 * cell:7 * cell + 7])
@@ -149,9 +164,24 @@ def main():
             hold(name, 'the reading', reading(session, stream), text)
             read += 1
     hold('rows', 'the file', (read, called), (len(reader.value('rows')), len(reader.value('callRows'))))
+
+    with open(SUMMARIES, encoding='utf-8') as file:
+        reader = Reader(file.read())
+    records = [(name, session, name == 'trueRecords') for name in ('trueRecords', 'falseRecords') for session in reader.value(name)]
+    for name, session, true in records:
+        hold(name, 'the reading', session.possible(), true)
+    summaries, queries = reader.value('summaryRows'), reader.value('queryRows')
+    for stream, entries in summaries:
+        session = oracle.Session()
+        reading(session, stream)
+        hold('summaryRows', 'the reading', session.shared, entries)
+    for session, first, second, told in queries:
+        answer = session.query(first, second)
+        hold('queryRows', 'the reading', list(answer) if isinstance(answer, tuple) else [answer], told)
     if wrong:
         sys.exit(1)
-    print('rows: %d streams through the program, %d with those from other states and %d calls through the reading, as the rows say' % (ran, read, called))
+    print('rows: %d streams through the program, %d with those from other states and %d calls, %d records, %d summaries and %d queries through the reading, as the rows say'
+          % (ran, read, called, len(records), len(summaries), len(queries)))
 
 
 if __name__ == '__main__':

@@ -1,6 +1,7 @@
 //! Times the library and the Rust on the same inputs, turn by turn in one run: `bench ROUNDS`. A line has the median time of each, the
 //! median of the rounds' ratios, and the ratios between which eight rounds in ten lie. Below 1 the library is the faster. In the last line the library
-//! is held to itself: the Rust's column then has its calls for one command each.
+//! is held to itself: the Rust's column then has its calls for one command each. The Rust has neither streams nor shared counts: a plain reader and a plain
+//! count stand for them.
 
 use drivers::grid::{near_identity, Grid, Pose, POSE_FLOATS};
 use drivers::oracle::{bits, flat, iso, views_of};
@@ -298,6 +299,31 @@ fn read_by_library(stream: &[u8]) -> (usize, usize) {
     (solved, refused)
 }
 
+/// The Rust keeps no counts: this is a plain one, over the views that hold both cameras. It checks nothing.
+fn count_shared(views: &[Vec<Option<Iso3>>], first: u8, second: u8) -> u32 {
+    views.iter().filter(|view| view[first as usize].is_some() && view[second as usize].is_some()).count() as u32
+}
+
+/// A Pose or a Withdraw on a grid that has the cell, as the plain reader has it: nothing is counted.
+fn hold_plainly(views: &mut [Vec<Option<Iso3>>], command: &[u8]) -> bool {
+    let cell = &mut views[command[1] as usize][command[2] as usize];
+    match (command[0], &cell) {
+        (2, None) => {
+            let offered: Pose = std::array::from_fn(|i| f64::from_le_bytes(command[3 + 8 * i..11 + 8 * i].try_into().unwrap()));
+            let finite = offered.iter().all(|x| x.is_finite());
+            if finite {
+                *cell = Some(iso(offered));
+            }
+            finite
+        }
+        (4, Some(_)) => {
+            *cell = None;
+            true
+        }
+        _ => false,
+    }
+}
+
 fn main() {
     let rounds: usize = std::env::args().nth(1).map_or(201, |word| word.parse().expect("a number of rounds"));
     let mut random = Random::new(1, 0);
@@ -370,6 +396,40 @@ fn main() {
         1,
         || keep(read_by_library(black_box(&stream))),
         || keep(count_plainly(black_box(&stream))),
+    );
+
+    // The stream's Size and its first 1,024 poses, one call each; then the last of them withdrawn and sent again, and what each two cameras share.
+    let poses_alone = &stream[..4 + 59 * 1024];
+    assert_eq!((read_by_library(poses_alone), count_plainly(poses_alone)), ((0, 0), (0, 0)));
+    compare(
+        rounds,
+        "Pose by one call, each, until 64 views × 16 cameras are full",
+        1024,
+        || keep(read_by_library(black_box(poses_alone))),
+        || keep(count_plainly(black_box(poses_alone))),
+    );
+    let mut session = placer::Session::new();
+    let mut views = vec![vec![Some(Iso3::identity()); 16]; 64];
+    session.feed(poses_alone);
+    let again = [&[4, 63, 15][..], &poses_alone[poses_alone.len() - 59..]].concat();
+    let held = |session: &mut placer::Session, at: usize| session.step(black_box(&again), at).answer == Ok(placer::Accepted::Held);
+    assert!(held(&mut session, 0) && held(&mut session, 3));
+    assert!(hold_plainly(&mut views, &again[..3]) && hold_plainly(&mut views, &again[3..]));
+    compare(
+        rounds,
+        "Withdraw and Pose by one call, each, of 64 views × 16 cameras, full",
+        2,
+        || keep((held(&mut session, 0), held(&mut session, 3))),
+        || keep((hold_plainly(black_box(&mut views), black_box(&again[..3])), hold_plainly(black_box(&mut views), black_box(&again[3..])))),
+    );
+    let pairs: Vec<(u8, u8)> = (0..16).flat_map(|first| (0..16).map(move |second| (first, second))).collect();
+    assert!(pairs.iter().all(|&(first, second)| session.shared(first, second) == Ok(64) && count_shared(&views, first, second) == 64));
+    compare(
+        rounds,
+        "shared count of two cameras, each, of 64 views × 16 cameras, full, against a plain count over the views",
+        pairs.len(),
+        || pairs.iter().for_each(|&(first, second)| keep(black_box(&session).shared(first, second))),
+        || pairs.iter().for_each(|&(first, second)| keep(count_shared(black_box(&views), first, second))),
     );
 
     // The same stream with its lines printed into memory that holds them all, so that one call of the whole-stream entry is enough. The times are of the

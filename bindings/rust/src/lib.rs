@@ -47,6 +47,8 @@ pub mod ffi {
             chains_len: usize,
             next: *mut usize,
         ) -> u64;
+        /// How many views two cameras share, by a session's record.
+        pub fn placer_shared(record: *const u64, record_len: usize, first: u8, second: u8) -> u64;
     }
 }
 
@@ -59,8 +61,11 @@ pub const MAX_VIEWS: usize = 64;
 /// As many cameras as a rig may have.
 pub const MAX_CAMERAS: usize = 16;
 
-/// The words of a session record: a mask for each camera, the views, the cameras and the reference.
-pub const RECORD_WORDS: usize = MAX_CAMERAS + 3;
+/// Where the shared counts begin in a session record: 16 rows of 16, for cameras a and b at `SHARED_WORD + 16 * a + b`.
+pub const SHARED_WORD: usize = MAX_CAMERAS + 3;
+
+/// The words of a session record: a mask for each camera, the views, the cameras and the reference, and the shared counts.
+pub const RECORD_WORDS: usize = SHARED_WORD + MAX_CAMERAS * MAX_CAMERAS;
 
 /// The doubles of a session's buffer.
 pub const BUFFER_FLOATS: usize = POSE_FLOATS * MAX_VIEWS * MAX_CAMERAS;
@@ -87,7 +92,7 @@ pub struct Refusal {
 }
 
 impl Refusal {
-    /// What the reply of an export but `placer_step` says, whose 1 and 2 are no refusals: 0 is none.
+    /// What the reply of an export says, but of `placer_step` and `placer_shared`, whose numbers below 2^32 are no refusals: 0 is none.
     pub fn from_reply(reply: u64) -> Result<(), Refusal> {
         match reply {
             0 => Ok(()),
@@ -111,7 +116,7 @@ impl fmt::Display for Refusal {
             9 => write!(f, "view {detail} has no poses"),
             10 => write!(f, "no command begins with byte {detail}"),
             11 => write!(f, "the stream ends within the command at offset {detail}, or, where that is its length, the offset is past its end"),
-            12 => write!(f, "view {}, camera {} is outside the rig", detail >> 8, detail & 0xff),
+            12 => write!(f, "view {0}, camera {1} is outside the rig, or, of a query, camera {0} or camera {1}", detail >> 8, detail & 0xff),
             13 => write!(f, "the stream is longer than 65,536 bytes"),
             21 => write!(f, "no Size was accepted yet"),
             22 => write!(f, "a Size was accepted already"),
@@ -275,8 +280,8 @@ impl Session {
 
     /// The session that a record and a buffer hold; its rig is there after the next Solve.
     ///
-    /// Nothing is checked here: a record that no accepted commands leave, and a buffer of another length than [`BUFFER_FLOATS`], have every
-    /// command refused with 5.
+    /// Nothing is checked here: a record that no accepted commands leave, one with a false shared count among them, and a buffer of another length than
+    /// [`BUFFER_FLOATS`], have every command refused with 5, unless the stream is too long, which is 13.
     pub fn from_parts(record: [u64; RECORD_WORDS], buffer: impl Into<Box<[f64]>>) -> Session {
         Session {
             record,
@@ -339,14 +344,26 @@ impl Session {
         fed
     }
 
+    /// How many views hold poses of both cameras, 0 to 64; of a camera with itself, how many hold one of it. Nothing is changed.
+    ///
+    /// Refused: a record that no accepted commands leave with 5, before an accepted Size with 21, a camera outside the sizes with 12, detail being
+    /// first * 256 + second, in this order.
+    pub fn shared(&self, first: u8, second: u8) -> Result<u32, Refusal> {
+        let reply = unsafe { ffi::placer_shared(self.record.as_ptr(), self.record.len(), first, second) };
+        match (reply >> 32) as u32 {
+            0 => Ok(reply as u32),
+            number => Err(Refusal { number, detail: reply as u32 }),
+        }
+    }
+
     /// The rig that was solved last, whatever was sent or withdrawn since.
     pub fn rig(&self) -> Option<Rig> {
-        let [.., views, cameras, _] = self.record;
+        let [views, cameras] = [self.record[MAX_CAMERAS], self.record[MAX_CAMERAS + 1]];
         self.solved.then(|| Rig::from_answers(cameras as usize, views as usize, &self.transforms, &self.chains))
     }
 
-    /// The record: a mask for each camera, the views, the cameras and the reference. With [`Session::buffer`] it is all that a session
-    /// holds: both saved, [`Session::from_parts`] takes it up again.
+    /// The record: a mask for each camera, the views, the cameras and the reference, and from [`SHARED_WORD`] on the shared counts, which
+    /// [`Session::shared`] reads. With [`Session::buffer`] it is all that a session holds: both saved, [`Session::from_parts`] takes it up again.
     pub fn record(&self) -> &[u64; RECORD_WORDS] {
         &self.record
     }

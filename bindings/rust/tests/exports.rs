@@ -214,6 +214,20 @@ fn withdraw(view: u8, camera: u8) -> Vec<u8> {
     vec![4, view, camera]
 }
 
+/// The shared counts of a record's masks, view by view and pair by pair.
+fn recount(record: &[u64]) -> [u64; MAX_CAMERAS * MAX_CAMERAS] {
+    let mut counts = [0; MAX_CAMERAS * MAX_CAMERAS];
+    for view in 0..MAX_VIEWS {
+        let held: Vec<usize> = (0..MAX_CAMERAS).filter(|&camera| record[camera] >> view & 1 == 1).collect();
+        for &first in &held {
+            for &second in &held {
+                counts[MAX_CAMERAS * first + second] += 1;
+            }
+        }
+    }
+    counts
+}
+
 struct Lent {
     record: Vec<u64>,
     buffer: Vec<f64>,
@@ -270,6 +284,16 @@ impl Lent {
         assert!(before == self.words(), "a refusal changed something");
     }
 
+    /// The shared counts made those of the masks: counted view by view.
+    fn counted(&mut self) {
+        let counts = recount(&self.record);
+        self.record[SHARED_WORD..RECORD_WORDS].copy_from_slice(&counts);
+    }
+
+    fn shared(&self, first: u8, second: u8) -> u64 {
+        unsafe { ffi::placer_shared(self.record.as_ptr(), self.record.len(), first, second) }
+    }
+
     /// The same after commands that are accepted.
     fn after(mut self, commands: &[Vec<u8>]) -> Lent {
         for command in commands {
@@ -285,18 +309,28 @@ fn step_refuses() {
     // 13, then 5, before all else.
     Lent::fresh().refuses(&vec![3; MAX_STREAM + 1], 0, 13, 0, MAX_STREAM + 1);
     Lent::fresh().with(|l| l.record.truncate(18)).refuses(&vec![3; MAX_STREAM + 1], 0, 13, 0, MAX_STREAM + 1);
+    Lent::fresh().with(|l| l.record[SHARED_WORD] = 1).refuses(&vec![3; MAX_STREAM + 1], 0, 13, 0, MAX_STREAM + 1);
     for spoil in [
         (|l| l.record.truncate(18)) as fn(&mut Lent),
+        |l| l.record.truncate(SHARED_WORD),
+        |l| l.record.truncate(RECORD_WORDS - 1),
         |l| l.record.push(0),
         |l| l.record[16] = 256,
         |l| l.record[17] = 1 << 63,
         |l| l.record[18] = 1,
         |l| l.record[3] = 1,
-        |l| l.record[16..].copy_from_slice(&[65, 1, 0]),
-        |l| l.record[16..].copy_from_slice(&[1, 17, 0]),
-        |l| l.record[16..].copy_from_slice(&[1, 1, 1]),
+        |l| l.record[16..SHARED_WORD].copy_from_slice(&[65, 1, 0]),
+        |l| l.record[16..SHARED_WORD].copy_from_slice(&[1, 17, 0]),
+        |l| l.record[16..SHARED_WORD].copy_from_slice(&[1, 1, 1]),
         |l| (l.record[0], l.record[16], l.record[17]) = (2, 1, 1),
         |l| (l.record[1], l.record[16], l.record[17]) = (1, 1, 1),
+        // The same with shared counts that are those of the masks.
+        |l| { l.record[3] = 1; l.counted() },
+        |l| { (l.record[0], l.record[16], l.record[17]) = (2, 1, 1); l.counted() },
+        |l| { (l.record[1], l.record[16], l.record[17]) = (1, 1, 1); l.counted() },
+        |l| l.record[SHARED_WORD] = 1,
+        |l| l.record[SHARED_WORD] = 256,
+        |l| l.record[RECORD_WORDS - 1] = 1 << 63,
         |l| l.buffer.truncate(BUFFER_FLOATS - 1),
         |l| l.buffer.push(0.0),
         |l| l.transforms.truncate(FIRST_FLOATS - 1),
@@ -378,7 +412,7 @@ fn poses_are_taken_back() {
         assert!(held[RECORD_WORDS..] == lent.words()[RECORD_WORDS..], "a withdrawal wrote something but the record");
         lent.refuses(&withdraw(view, camera), 0, 24, view as u64 * 256 + camera as u64, 3);
     }
-    // Every cell of a full rig, with all others held: one bit of one mask.
+    // Every cell of a full rig, with all others held: one bit of one mask, and what was shared by it.
     let cells: Vec<(u8, u8)> = (0..3).flat_map(|view| (0..2).map(move |camera| (view, camera))).collect();
     let full = |numbers: &dyn Fn(u8, u8) -> Pose| {
         let poses = cells.iter().map(|&(view, camera)| place(view, camera, numbers(view, camera)));
@@ -388,8 +422,14 @@ fn poses_are_taken_back() {
         let mut lent = full(&|_, _| STANDING);
         let (record, buffer) = (lent.record.clone(), bits(&lent));
         lent = lent.after(&[withdraw(view, camera)]);
+        // The mask, the camera's own count, and both entries of the pair, by one each.
+        let camera = camera as usize;
+        let own = SHARED_WORD + 17 * camera;
         let changed: Vec<_> = (0..RECORD_WORDS).filter(|&n| lent.record[n] != record[n]).collect();
-        assert_eq!((changed, lent.record[camera as usize]), (vec![camera as usize], record[camera as usize] ^ 1 << view));
+        let mut expected = vec![camera, own, SHARED_WORD + 1, SHARED_WORD + 16];
+        expected.sort();
+        assert_eq!((changed, lent.record[camera]), (expected, record[camera] ^ 1 << view));
+        assert!([own, SHARED_WORD + 1, SHARED_WORD + 16].iter().all(|&n| (record[n], lent.record[n]) == (3, 2)));
         assert!(buffer == bits(&lent));
     }
     // A bumped target: taken back and sent again, the rig is the one of a stream that never had it. Until then its cell's numbers, spoilt here, are ignored.
@@ -415,6 +455,109 @@ fn poses_are_taken_back() {
     assert!(rig.is_some());
     assert_eq!(session.feed(&[place(1, 1, STANDING), SOLVE.to_vec()].concat()), [Ok(Accepted::Held), Ok(Accepted::Solved)]);
     assert_eq!(session.rig(), rig);
+}
+
+// ---- shared counts
+
+#[test]
+fn shared_counts_are_kept() {
+    let mut lent = Lent::fresh();
+    let obey = |lent: &mut Lent, command: Vec<u8>| {
+        assert_eq!(lent.step(&command, 0), (1, command.len()));
+        assert_eq!(lent.record[SHARED_WORD..], recount(&lent.record), "after {:?}", &command[..3]);
+    };
+    obey(&mut lent, size(64, 16, 5));
+    // Cameras in stripes, so that pairs share unlike numbers of views; then all of camera 9 back, and one view of every camera.
+    let cells = || (0..64u8).flat_map(|view| (0..16u8).map(move |camera| (view, camera))).filter(|&(view, camera)| view % (camera + 1) < 3);
+    cells().for_each(|(view, camera)| obey(&mut lent, place(view, camera, STANDING)));
+    let full = lent.record.clone();
+    for first in 0..16 {
+        for second in 0..16 {
+            assert_eq!(lent.shared(first, second), full[SHARED_WORD + 16 * first as usize + second as usize]);
+            assert_eq!(lent.shared(first, second), cells().filter(|&(view, camera)| camera == first && view % (second + 1) < 3).count() as u64);
+        }
+    }
+    cells().filter(|&(_, camera)| camera == 9).for_each(|(view, camera)| obey(&mut lent, withdraw(view, camera)));
+    assert!((0..16).all(|camera| lent.shared(9, camera) == 0 && lent.shared(camera, 9) == 0));
+    cells().filter(|&(view, camera)| camera != 9 && view == 2).for_each(|(view, camera)| obey(&mut lent, withdraw(view, camera)));
+    // What is refused, and a Solve, leave them as they were.
+    let before = lent.record.clone();
+    for command in [size(1, 1, 0), place(64, 0, STANDING), place(0, 0, STANDING), place(2, 0, [f64::NAN; POSE_FLOATS]), withdraw(2, 0), withdraw(0, 16), SOLVE.to_vec()] {
+        assert_ne!(lent.step(&command, 0).0, 1);
+        assert!(lent.record == before);
+    }
+    // Both sent again: the record as it was.
+    cells().filter(|&(view, camera)| camera == 9 || view == 2).for_each(|(view, camera)| obey(&mut lent, place(view, camera, STANDING)));
+    assert!(lent.record == full);
+    // The wrapper has the same, and a fresh session is refused.
+    let mut session = Session::new();
+    assert_eq!(session.shared(0, 0), Err(Refusal { number: 21, detail: 0 }));
+    session.feed(&[size(3, 3, 0), place(0, 0, STANDING), place(0, 2, STANDING), place(1, 2, STANDING)].concat());
+    let shared = |first, second| session.shared(first, second);
+    assert_eq!([shared(0, 0), shared(0, 2), shared(2, 0), shared(2, 2), shared(1, 1), shared(1, 2)].map(Result::unwrap), [1, 1, 1, 2, 0, 0]);
+    assert_eq!(shared(2, 3), Err(Refusal { number: 12, detail: 2 * 256 + 3 }));
+    assert_eq!(session.record()[SHARED_WORD + 16 * 2 + 2], 2);
+}
+
+#[test]
+fn false_counts_are_refused() {
+    let true_record = Lent::fresh().after(&[size(5, 4, 1), place(0, 0, STANDING), place(0, 1, STANDING), place(4, 1, STANDING), place(4, 3, STANDING)]).record;
+    let fresh = vec![0; RECORD_WORDS];
+    let mut full = vec![u64::MAX; 16];
+    full.extend([64, 16, 0]);
+    full.extend([64; 256]);
+    for record in [true_record, fresh, full] {
+        let lent = || Lent::fresh().with(|l| l.record.clone_from(&record));
+        assert_eq!(lent().step(&[], 0), (0, 0), "a true record is taken");
+        for entry in SHARED_WORD..RECORD_WORDS {
+            for false_count in [record[entry] + 1, record[entry].wrapping_sub(1), 255, record[entry] + 256, record[entry] + (1 << 32), u64::MAX] {
+                let spoilt = lent().with(|l| l.record[entry] = false_count);
+                assert_eq!(spoilt.shared(0, 0), refusal(5, 0), "word {entry} is {false_count}");
+                spoilt.refuses(&SOLVE, 0, 5, 0, 1);
+            }
+        }
+        // Both entries of each pair, alike.
+        for (first, second) in (0..16).flat_map(|first| (0..first).map(move |second| (first, second))) {
+            let spoilt = lent().with(|l| [(first, second), (second, first)].iter().for_each(|(a, b)| l.record[SHARED_WORD + 16 * a + b] ^= 1));
+            assert_eq!(spoilt.shared(0, 0), refusal(5, 0), "cameras {first} and {second}");
+            spoilt.refuses(&SOLVE, 9, 5, 0, 1);
+        }
+    }
+}
+
+#[test]
+fn shared_refuses() {
+    let sized = |cameras| Lent::fresh().after(&[size(2, cameras, 0)]);
+    // 5, whatever the cameras: before 21 and before 12.
+    for (first, second) in [(0, 0), (0, 200), (200, 0), (255, 255)] {
+        for length in [0, 18, 19, 274] {
+            assert_eq!(Lent::fresh().with(|l| l.record.truncate(length)).shared(first, second), refusal(5, 0));
+        }
+        for spoil in [
+            (|l| l.record.push(0)) as fn(&mut Lent),
+            |l| l.record[16] = 256,
+            |l| l.record[16] = 1,
+            |l| l.record[17] = 1 << 63,
+            |l| l.record[18] = 1,
+            |l| { l.record[3] = 1; l.counted() },
+            |l| l.record[SHARED_WORD + 17] = 1,
+        ] {
+            assert_eq!(Lent::fresh().with(spoil).shared(first, second), refusal(5, 0));
+        }
+        for spoil in [(|l| { l.record[0] = 4; l.counted() }) as fn(&mut Lent), |l| { l.record[2] = 1; l.counted() }, |l| l.record[RECORD_WORDS - 1] = 1] {
+            assert_eq!(sized(2).with(spoil).shared(first, second), refusal(5, 0));
+        }
+        // 21, before 12.
+        assert_eq!(Lent::fresh().shared(first, second), refusal(21, 0));
+    }
+    // 12 for every pair with a camera outside, and for no other; no pair is taken for another entry.
+    for cameras in [1, 2, 15, 16] {
+        let lent = sized(cameras);
+        for (first, second) in (0..=255u8).flat_map(|first| (0..=255u8).map(move |second| (first, second))) {
+            let inside = first < cameras && second < cameras;
+            assert_eq!(lent.shared(first, second), if inside { 0 } else { refusal(12, first as u64 * 256 + second as u64) });
+        }
+    }
 }
 
 #[test]
@@ -494,7 +637,7 @@ fn sessions_are_saved() {
 fn refusals_are_told() {
     let told = |number, detail| Refusal { number, detail }.to_string();
     assert_eq!(told(7, 3), "cell 3 (view * cameras + camera), or pose 3 of a list, has a number that is not finite");
-    assert_eq!(told(12, 513), "view 2, camera 1 is outside the rig");
+    assert_eq!(told(12, 513), "view 2, camera 1 is outside the rig, or, of a query, camera 2 or camera 1");
     assert_eq!(told(24, 513), "view 2, camera 1 holds no pose");
 }
 
@@ -510,6 +653,7 @@ fn null_will_do_for_nothing() {
         let mut next = 1;
         let reply = ffi::placer_step(null_mut(), 0, null(), 0, 0, null_mut(), 0, null_mut(), 0, null_mut(), 0, &mut next);
         assert_eq!((reply, next), (refusal(5, 0), 0));
+        assert_eq!(ffi::placer_shared(null(), 0, 0, 0), refusal(5, 0));
         let mut l = Lent::fresh();
         let reply = ffi::placer_step(
             l.record.as_mut_ptr(),

@@ -7,7 +7,8 @@ use mathlib.Core.List.{List}
 use lib.Ieee.{Float}
 use Rattle.session.specs.Call.{State, call}
 use Rattle.claims_streams.specs.Stream.{answer}
-use Rattle.placer.specs.Step.{sessionIn, isRecord, Stepped}
+use Rattle.record_words.specs.Words.{sessionIn, isRecord}
+use Rattle.placer.specs.Step.{Stepped}
 use Rattle.placer.specs.Reading.{replyIn, CallReply}
 use Rattle.placer.proofs.Reading.{SmallReply, replyIn-codeOfReply}
 use Rattle.placer.proofs.Calls.{stepped-as-call}

@@ -1,6 +1,6 @@
 -- The details of what a call of the session refuses have no more than 32 bits, where the stream's elements are bytes (`small-call`): 13
 -- comes first, so that offsets are at most 65,536, and 5, so that sizes are within the limits. Assumes nothing.
-use Prim.Native.Nat.{ℕ, _+_, _≤_, _<_}
+use Prim.Native.Nat.{ℕ, _+_, _≤_}
 use native.Mathlib.Omega.{arith}
 use mathlib.Core.Path.{_≡_, refl, sym, subst}
 use mathlib.Core.Bool.{Bool, true, false, not, cond}
@@ -21,7 +21,7 @@ use Rattle.command.specs.Framing.{whole, short, frame, framedBy, framed}
 use Rattle.command.specs.Command.{Command, edit, solve, widthOf, commandAt, decoded, parse}
 use Rattle.command.specs.Writing.{OfBytes}
 use Rattle.command.proofs.Writing.{commandAt-bytes}
-use Rattle.session_record.specs.Session.{hasSize, sessionGrid, possible}
+use Rattle.session_record.specs.Session.{heldOf, hasSize, sessionGrid, possible}
 use Rattle.session.specs.Commands.{commandRefusal}
 use Rattle.session.specs.Call.{maxStream, State, callRefusal, replyTo, read, call, unusable}
 use Rattle.session_record.specs.declared.Session.{Session}
@@ -37,14 +37,14 @@ use Rattle.claims_exports.specs.InHand.{Bytes}
 
 -- ---- commands
 
-pub small-command : (s : Session) (buffer : List Float) → T (possible s) → (command : Command) → OfBytes command → Small (commandRefusal s buffer command)
+pub small-command : (s : Session) (buffer : List Float) → T (possible s) → (command : Command) → OfBytes command → Small (commandRefusal (heldOf s) buffer command)
 unfolding commandRefusal rigGrid
 small-command s buffer allowed (edit change) h = edit-law change .small s allowed h
 small-command s buffer allowed solve h =
     let fit = within-limits s allowed in
     subst Small (sym (solve-checks s buffer))
-    (if-firstOf ShortDetail (refuseIf (not (hasSize s)) NoSize ∷ gridRefusal (sessionGrid s buffer) ∷ [])
-    (if-refuseIf ShortDetail (not (hasSize s)) NoSize (omega arith), λ e. (small-grid (sessionGrid s buffer) (fit .0) (fit .1), λ e. tt)))
+    (if-firstOf ShortDetail (refuseIf (not (hasSize (heldOf s))) NoSize ∷ gridRefusal (sessionGrid (heldOf s) buffer) ∷ [])
+    (if-refuseIf ShortDetail (not (hasSize (heldOf s))) NoSize (omega arith), λ e. (small-grid (sessionGrid (heldOf s) buffer) (fit .0) (fit .1), λ e. tt)))
 
 small-replyTo : (command : Command) → SmallReply (replyTo command)
 unfolding replyTo
@@ -53,9 +53,9 @@ small-replyTo solve = tt
 
 pub small-answer : (t : State) → T (possible (t .session)) → (command : Command) → OfBytes command → SmallReply (answerTo t command .reply)
 small-answer t allowed command h =
-    go (commandRefusal (t .session) (t .buffer) command) refl (small-command (t .session) (t .buffer) allowed command h)
+    go (commandRefusal (heldOf (t .session)) (t .buffer) command) refl (small-command (t .session) (t .buffer) allowed command h)
   where
-    go : (o : Option Refusal) → commandRefusal (t .session) (t .buffer) command ≡ o → Small (commandRefusal (t .session) (t .buffer) command)
+    go : (o : Option Refusal) → commandRefusal (heldOf (t .session)) (t .buffer) command ≡ o → Small (commandRefusal (heldOf (t .session)) (t .buffer) command)
         → SmallReply (answerTo t command .reply)
     go none e k = rw (answerTo-accepted t command e) (small-replyTo command)
     go (some r) e k = rw (answerTo-refused t command r e) (subst Small e k)

@@ -9,3 +9,4 @@ pub mod TakenBack
 pub mod SolveSteps
 pub mod Streams
 pub mod SolveStreams
+pub mod SharedReplies

@@ -12,7 +12,7 @@ use lib.Ieee.{Float}
 use Rattle.extrinsics.specs.Outcome.{notFinite}
 use Rattle.command.specs.Command.{solve, solveByte, solveWidth, widthOf}
 use Rattle.command.proofs.Decoding.{parse-solve}
-use Rattle.session_record.specs.Session.{sessionGrid}
+use Rattle.session_record.specs.Session.{heldOf, sessionGrid}
 use Rattle.session.specs.Call.{maxStream, State, Result, result, read, call}
 use Rattle.claims_streams.specs.Stream.{answer, answerTo, Usable}
 use Rattle.claims_streams.specs.DirectInputs.{AsDirect}
@@ -20,7 +20,8 @@ use Rattle.claims_streams.specs.SolveDemands.{AsDemanded}
 use Rattle.claims_streams.proofs.SolveDirect.{solve-as-direct}
 use Rattle.claims_streams.proofs.SolveDemands.{solve-demand-2, solve-demand-3}
 use Rattle.claims_streams.proofs.Streams.{call-reads, passes-of-usable, obeyed-answerTo}
-use Rattle.placer.specs.Step.{viewsWord, sessionIn, isRecord, Stepped}
+use Rattle.record_words.specs.Words.{viewsWord, sessionIn, isRecord}
+use Rattle.placer.specs.Step.{Stepped}
 use Rattle.placer.proofs.Reading.{SmallReply}
 use Rattle.claims_exports.specs.InHand.{stateIn, answerIn}
 use Rattle.claims_exports.proofs.Details.{small-answer}
@@ -61,7 +62,7 @@ module _ (words stream : List ℕ) (at : ℕ) (buffer first : List Float) (secon
     solve-step-as-direct = subst (AsDirect t) (sym solve-step-answers) (solve-as-direct t usable some-view)
 
     -- Where every held number is finite, as both demands ask.
-    pub solve-step-as-demanded : notFinite (sessionGrid (sessionIn words) buffer) ≡ none
+    pub solve-step-as-demanded : notFinite (sessionGrid (heldOf (sessionIn words)) buffer) ≡ none
         → AsDemanded (stateIn words buffer first second) (answerIn r words′ buffer′ first′ second′)
     solve-step-as-demanded finite =
         let direct : AsDirect t (answerTo t solve) = solve-as-direct t usable some-view in

@@ -8,7 +8,8 @@ use lib.Ieee.{Float}
 use Rattle.session.specs.Call.{State, result, call}
 use Rattle.claims_streams.specs.CallDemand1.{CallDemand1}
 use Rattle.claims_streams.proofs.CallDemand1.{call-demand-1}
-use Rattle.placer.specs.Step.{isRecord, Stepped}
+use Rattle.record_words.specs.Words.{isRecord}
+use Rattle.placer.specs.Step.{Stepped}
 use Rattle.placer.specs.Reading.{replyIn}
 use Rattle.claims_exports.specs.InHand.{stateIn, Bytes}
 use Rattle.claims_exports.proofs.Records.{wordable-in}

@@ -21,8 +21,9 @@ use Rattle.session.specs.declared.Reply.the-variants.{Refused}
 use Rattle.session.proofs.Advancing.{call-advances}
 use Rattle.claims_streams.specs.Stream.{Answer, meaning, endsStream, callsFrom, calls}
 use Rattle.claims_streams.proofs.Streams.{callsFrom-ends, callsFrom-goes-on, calls-give-meaning}
+use Rattle.record_words.specs.Words.{isRecord}
 use Rattle.placer.specs.Code.{codeOfReply}
-use Rattle.placer.specs.Step.{isRecord, stepped, wordsAfter, Stepped}
+use Rattle.placer.specs.Step.{stepped, wordsAfter, Stepped}
 use Rattle.placer.specs.Reading.{replyIn}
 use Rattle.claims_exports.specs.InHand.{stateIn, Bytes}
 use Rattle.claims_exports.specs.Steps.{Steps, the-last, one-more, freshWords}

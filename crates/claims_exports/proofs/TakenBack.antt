@@ -14,11 +14,12 @@ use Rattle.claims_streams.specs.Alike.{SameHeld, AnswersAlike}
 use Rattle.claims_streams.specs.TakenBack.{PoseThenWithdrawal, TakenBack}
 use Rattle.claims_streams.proofs.Alike.{meaning-alike}
 use Rattle.claims_streams.proofs.TakenBack.{taken-back}
+use Rattle.record_words.specs.Words.{wordsOf, sessionIn, isRecord}
+use Rattle.record_words.proofs.Records.{isRecord-words, wordsOf-sessionIn}
 use Rattle.placer.specs.Code.{codeOfReply}
-use Rattle.placer.specs.Step.{wordsOf, sessionIn, isRecord, Stepped}
+use Rattle.placer.specs.Step.{Stepped}
 use Rattle.placer.specs.Reading.{replyIn, CallReply}
 use Rattle.placer.proofs.Calls.{stepped-as-call}
-use Rattle.placer.proofs.Records.{isRecord-words, wordsOf-sessionIn}
 use Rattle.claims_exports.specs.InHand.{stateIn, Bytes}
 use Rattle.claims_exports.specs.Steps.{Steps}
 use Rattle.claims_exports.proofs.Records.{wordable-in}

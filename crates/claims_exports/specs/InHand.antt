@@ -6,7 +6,7 @@ use lib.ListN.{getD}
 use lib.Ieee.{Float}
 use Rattle.session.specs.Call.{State, state}
 use Rattle.claims_streams.specs.Stream.{Answer, answer}
-use Rattle.placer.specs.Step.{sessionIn}
+use Rattle.record_words.specs.Words.{sessionIn}
 use Rattle.placer.specs.Reading.{replyIn}
 
 abbrev pub stateIn : List ℕ → List Float → List Float → List ℕ → State

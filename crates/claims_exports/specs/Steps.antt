@@ -6,7 +6,8 @@ use mathlib.Core.List.{List, [], _∷_}
 use lib.ListN.{replicate}
 use lib.Ieee.{Float}
 use Rattle.claims_streams.specs.Stream.{Answer, endsStream}
-use Rattle.placer.specs.Step.{recordWords, Stepped}
+use Rattle.record_words.specs.Words.{recordWords}
+use Rattle.placer.specs.Step.{Stepped}
 use Rattle.placer.specs.Reading.{replyIn}
 use Rattle.claims_exports.specs.InHand.{answerIn}
 

@@ -20,7 +20,6 @@ use Rattle.refusal.specs.Table.{refuseIf, firstOf}
 use Rattle.refusal.specs.declared.Refusal.{Refusal}
 use Rattle.refusal.specs.declared.Refusal.the-variants.{Truncated}
 use Rattle.command.specs.Command.{Parsed, complete, broken, unknown, parse}
-use Rattle.session_record.specs.Session.{possible}
 use Rattle.session.specs.Call.{maxStream, State, state, Result, result, callRefusal, read, call}
 use Rattle.session.specs.declared.Reply.the-variants.{End, Refused}
 use Rattle.command.proofs.Decoding.{parse-complete}
@@ -28,6 +27,7 @@ use Rattle.session.proofs.Advancing.{call-advances}
 use Rattle.session.proofs.PassedCalls.{call-passed}
 use Rattle.listing.specs.Listing.{refusalLine, replyText, listingBytes, printedBy}
 use Rattle.claims_streams.specs.Stream.{restOf, contentsOf, Answer, answer, streamRefusal, lastState, answersOf, meaning, endsStream, callsFrom, Usable}
+use Rattle.claims_streams.proofs.Sound.{possible-fresh}
 use Rattle.claims_streams.proofs.Streams.{command-goes-on, callRefusal-passes, callRefusal-refuses, call-end, call-reads, passes-of-usable, obeyed-answerTo, callsFrom-ends, callsFrom-goes-on, calls-give-rest, meaning-refused, meaning-passes, meaning-too-long}
 use Rattle.claims_streams.proofs.CallWords.{usable-of-call}
 use Rattle.claims_streams.proofs.Usable.{usable-of-check, check-of-usable, usable-answer}
@@ -422,8 +422,7 @@ round-falls {stream} {at} {p} round {going} e = rw e (go (decLe (length stream) 
 -- ---- what `rig` prints
 
 pub fresh-usable : Usable freshState
-unfolding possible
-fresh-usable = usable-of-check freshState refl
+fresh-usable = usable-of-check freshState (rw possible-fresh refl)
 
 -- A stream cut behind the first byte that is too many answers what the whole stream does.
 pub meaning-cut : (t : State) (stream : List ℕ) → meaning t (take inputBytes stream) ≡ meaning t stream

@@ -11,8 +11,12 @@ use lib.Ieee.{toBits, ofBits, ofInt, add, sub, mul, div, lt, eq}
 use Rattle.root.specs.Root.{rootOf}
 use Rattle.arithmetic.specs.Pose.{mulPose}
 use Rattle.mean.specs.Average.{averageIsometries}
+use Rattle.chains.specs.Masks.{viewsOfBoth, sharedBy}
 use Rattle.chains.specs.Layers.{isPlaced, parentOf, linksOf, startSpot, nextSpot, layersTo, layers}
 use Rattle.placing.specs.Grid.{isHeld, spots}
+use Rattle.lists.specs.Finding.{allBelow, count}
+use Rattle.lists.specs.Masks.{inMask}
+use Rattle.shared_counts.specs.Summary.{isSummary}
 use Rattle.session_record.specs.Session.{possible}
 use Rattle.session.specs.Commands.{commandRefusal}
 use Rattle.command.specs.Command.{parse}
@@ -35,7 +39,7 @@ unfolding paperText
 paperText-reads = refl
 
 pub paper-listing : printed (meaning freshState paperStream) ≡ paperText
-unfolding printed paperStream paperText meaning streamRefusal contentsOf contentsFrom parse answersOf answers answerTo stateAfterAll endingReply commandRefusal possible replyTo stateAfter averageIsometries rootOf mulPose isHeld spots layers layersTo startSpot nextSpot isPlaced parentOf linksOf toBits ofBits ofInt add sub mul div lt eq replyText solvedText okLine cameraLineAt viewLineAt cameraLine viewLine decimalText floatText decimalWithin
+unfolding printed paperStream paperText meaning streamRefusal contentsOf contentsFrom parse answersOf answers answerTo stateAfterAll endingReply commandRefusal possible isSummary allBelow sharedBy viewsOfBoth inMask count replyTo stateAfter averageIsometries rootOf mulPose isHeld spots layers layersTo startSpot nextSpot isPlaced parentOf linksOf toBits ofBits ofInt add sub mul div lt eq replyText solvedText okLine cameraLineAt viewLineAt cameraLine viewLine decimalText floatText decimalWithin
 paper-listing = refl
 
 pub paper-rounds : (rooms : ℕ → ℕ) → ((i : ℕ) → listingBytes ≤ rooms i) → roundsFrom (length paperStream) rooms freshState paperStream 0 .text ≡ paperText

@@ -7,10 +7,13 @@ use Rattle.root.specs.Root.{rootOf}
 use Rattle.arithmetic.specs.Pose.{mulPose, inversePose, finitePose}
 use Rattle.mean.specs.Average.{averageIsometries}
 use Rattle.refusal.specs.Table.{refuseIf, firstOf}
+use Rattle.chains.specs.Masks.{viewsOfBoth, sharedBy}
 use Rattle.chains.specs.Shared.{shared}
-use Rattle.lists.specs.Finding.{count}
+use Rattle.lists.specs.Finding.{allBelow, count}
+use Rattle.lists.specs.Masks.{inMask}
 use Rattle.chains.specs.Layers.{inLayer, takeIfMore, mostViews, isPlaced, parentOf, linksOf, startSpot, nextSpot, linkedInLayer, parentInLayer, layersTo, layers}
 use Rattle.placing.specs.Grid.{isHeld, spots}
+use Rattle.shared_counts.specs.Summary.{isSummary}
 use Rattle.session_record.specs.Session.{possible}
 use Rattle.session.specs.Commands.{commandRefusal}
 use Rattle.command.specs.Command.{parse}
@@ -18,20 +21,21 @@ use Rattle.session.specs.Call.{callRefusal, replyTo, stateAfter, obeyed, read}
 use Rattle.claims_streams.specs.Stream.{meaning, streamRefusal, contentsFrom, contentsOf, answerTo, answers, stateAfterAll, endingReply, answersOf}
 use Rattle.listing.specs.Listing.{decimalWithin, decimalText, floatText, refusalLine, okLine, cameraLine, viewLine, cameraLineAt, viewLineAt, solvedText, replyText}
 use Rattle.claims_printing.specs.Printed.{printed}
+use Rattle.claims_summary_rows.specs.Rows.{padded, joined, table}
 use Rattle.claims_rows.specs.Rows.{Row, streamOf, textOf, allPrinted, allTexts, freshRows, solvedRows, otherRows, rows, allCalled, allTold, callRows}
 
 -- ---- three parts of the rows, computed apart
 
 fresh-rows-print : allPrinted freshRows ≡ allTexts freshRows
-unfolding freshRows allPrinted allTexts streamRefusal firstOf refuseIf contentsOf contentsFrom parse answersOf answers answerTo stateAfterAll endingReply commandRefusal possible replyTo stateAfter averageIsometries rootOf mulPose inversePose finitePose isHeld shared count spots layers layersTo startSpot nextSpot parentInLayer linkedInLayer inLayer mostViews takeIfMore isPlaced parentOf linksOf toBits ofBits ofInt add sub mul div neg lt eq replyText solvedText refusalLine okLine cameraLineAt viewLineAt cameraLine viewLine decimalText floatText decimalWithin
+unfolding freshRows allPrinted allTexts streamRefusal firstOf refuseIf contentsOf contentsFrom parse answersOf answers answerTo stateAfterAll endingReply commandRefusal possible isSummary allBelow sharedBy viewsOfBoth inMask table padded joined replyTo stateAfter averageIsometries rootOf mulPose inversePose finitePose isHeld shared count spots layers layersTo startSpot nextSpot parentInLayer linkedInLayer inLayer mostViews takeIfMore isPlaced parentOf linksOf toBits ofBits ofInt add sub mul div neg lt eq replyText solvedText refusalLine okLine cameraLineAt viewLineAt cameraLine viewLine decimalText floatText decimalWithin
 fresh-rows-print = refl
 
 solved-rows-print : allPrinted solvedRows ≡ allTexts solvedRows
-unfolding solvedRows allPrinted allTexts streamRefusal firstOf refuseIf contentsOf contentsFrom parse answersOf answers answerTo stateAfterAll endingReply commandRefusal possible replyTo stateAfter averageIsometries rootOf mulPose inversePose finitePose isHeld shared count spots layers layersTo startSpot nextSpot parentInLayer linkedInLayer inLayer mostViews takeIfMore isPlaced parentOf linksOf toBits ofBits ofInt add sub mul div neg lt eq replyText solvedText refusalLine okLine cameraLineAt viewLineAt cameraLine viewLine decimalText floatText decimalWithin
+unfolding solvedRows allPrinted allTexts streamRefusal firstOf refuseIf contentsOf contentsFrom parse answersOf answers answerTo stateAfterAll endingReply commandRefusal possible isSummary allBelow sharedBy viewsOfBoth inMask table padded joined replyTo stateAfter averageIsometries rootOf mulPose inversePose finitePose isHeld shared count spots layers layersTo startSpot nextSpot parentInLayer linkedInLayer inLayer mostViews takeIfMore isPlaced parentOf linksOf toBits ofBits ofInt add sub mul div neg lt eq replyText solvedText refusalLine okLine cameraLineAt viewLineAt cameraLine viewLine decimalText floatText decimalWithin
 solved-rows-print = refl
 
 other-rows-print : allPrinted otherRows ≡ allTexts otherRows
-unfolding otherRows allPrinted allTexts streamRefusal firstOf refuseIf contentsOf contentsFrom parse answersOf answers answerTo stateAfterAll endingReply commandRefusal possible replyTo stateAfter averageIsometries rootOf mulPose inversePose finitePose isHeld shared count spots layers layersTo startSpot nextSpot parentInLayer linkedInLayer inLayer mostViews takeIfMore isPlaced parentOf linksOf toBits ofBits ofInt add sub mul div neg lt eq replyText solvedText refusalLine okLine cameraLineAt viewLineAt cameraLine viewLine decimalText floatText decimalWithin
+unfolding otherRows allPrinted allTexts streamRefusal firstOf refuseIf contentsOf contentsFrom parse answersOf answers answerTo stateAfterAll endingReply commandRefusal possible isSummary allBelow sharedBy viewsOfBoth inMask table padded joined replyTo stateAfter averageIsometries rootOf mulPose inversePose finitePose isHeld shared count spots layers layersTo startSpot nextSpot parentInLayer linkedInLayer inLayer mostViews takeIfMore isPlaced parentOf linksOf toBits ofBits ofInt add sub mul div neg lt eq replyText solvedText refusalLine okLine cameraLineAt viewLineAt cameraLine viewLine decimalText floatText decimalWithin
 other-rows-print = refl
 
 -- ---- the parts together
@@ -56,5 +60,5 @@ rows-print =
     (both-print solvedRows otherRows solved-rows-print other-rows-print)
 
 pub call-rows-tell : allCalled callRows ≡ allTold callRows
-unfolding callRows allCalled allTold callRefusal firstOf refuseIf read obeyed parse commandRefusal possible replyTo stateAfter finitePose ofBits replyText refusalLine decimalText decimalWithin
+unfolding callRows allCalled allTold callRefusal firstOf refuseIf read obeyed parse commandRefusal possible isSummary allBelow sharedBy viewsOfBoth inMask count table padded joined replyTo stateAfter finitePose ofBits replyText refusalLine decimalText decimalWithin
 call-rows-tell = refl

@@ -14,6 +14,7 @@ use Rattle.session.specs.Call.{State, state, call}
 use Rattle.claims_streams.specs.Stream.{meaning}
 use Rattle.listing.specs.Listing.{printedBy}
 use Rattle.claims_printing.specs.Printed.{printed, freshState}
+use Rattle.claims_summary_rows.specs.Rows.{table}
 
 -- ---- a row: a state, and a stream from it, step by step
 
@@ -59,8 +60,8 @@ unfolding textOf
 allTexts [] = []
 allTexts (r ∷ later) = textOf (r .steps) ∷ allTexts later
 
--- From what `rig` begins with; from a session without sizes, with a buffer and answers of those lengths; and from a record of these masks, sizes
--- and reference, with doubles of these bits in the buffer.
+-- From what `rig` begins with; from a session without sizes, with a buffer and answers of those lengths; and from a record of these masks, this
+-- summary, sizes and reference, with doubles of these bits in the buffer.
 abbrev fresh : List Step → Row
 fresh steps = record { before = freshState; steps = steps }
 
@@ -68,18 +69,18 @@ abbrev lent : ℕ → ℕ → ℕ → List Step → Row
 lent buffer first second steps =
     record {
       before =
-          state (record { masks = replicate 16 0; views = 0; cameras = 0; reference = 0 })
+          state (record { masks = replicate 16 0; views = 0; cameras = 0; reference = 0; shared = replicate 256 0 })
           (replicate buffer (ofBits binary64 0))
           (replicate first (ofBits binary64 0))
           (replicate second 0);
       steps = steps;
     }
 
-abbrev held : List ℕ → List ℕ → ℕ → ℕ → ℕ → List Step → Row
-held numbers masks views cameras reference steps =
+abbrev held : List ℕ → List ℕ → List ℕ → ℕ → ℕ → ℕ → List Step → Row
+held numbers masks shared views cameras reference steps =
     record {
       before =
-          state (record { masks = masks; views = views; cameras = cameras; reference = reference })
+          state (record { masks = masks; views = views; cameras = cameras; reference = reference; shared = shared })
           (map (ofBits binary64) numbers)
           (replicate 560 (ofBits binary64 0))
           (replicate 32 0);
@@ -691,24 +692,28 @@ abbrev zeros : List ℕ
 zeros = replicate 7168 0
 
 -- 5: cameras alone, a reference alone, views alone; 65 views, 17 cameras, a reference that is no camera; a bit without sizes, of a view past the last,
--- of a camera past the last.
+-- of a camera past the last; a false entry of a camera with itself, of two cameras in either half, and without any pose.
 unfoldable pub wrongRecords : List Row
 wrongRecords =
-    held zeros (replicate 16 0) 0 1 0 turnedAway
-    ∷ held zeros (replicate 16 0) 0 0 1 turnedAway
-    ∷ held zeros (replicate 16 0) 1 0 0 turnedAway
-    ∷ held zeros (replicate 16 0) 65 1 0 turnedAway
-    ∷ held zeros (replicate 16 0) 1 17 0 turnedAway
-    ∷ held zeros (replicate 16 0) 2 3 3 turnedAway
-    ∷ held zeros (1 ∷ replicate 15 0) 0 0 0 turnedAway
-    ∷ held zeros (0 ∷ 4 ∷ replicate 14 0) 2 3 0 turnedAway
-    ∷ held zeros (0 ∷ 0 ∷ 0 ∷ 1 ∷ replicate 12 0) 2 3 0 turnedAway
+    held zeros (replicate 16 0) (table []) 0 1 0 turnedAway
+    ∷ held zeros (replicate 16 0) (table []) 0 0 1 turnedAway
+    ∷ held zeros (replicate 16 0) (table []) 1 0 0 turnedAway
+    ∷ held zeros (replicate 16 0) (table []) 65 1 0 turnedAway
+    ∷ held zeros (replicate 16 0) (table []) 1 17 0 turnedAway
+    ∷ held zeros (replicate 16 0) (table []) 2 3 3 turnedAway
+    ∷ held zeros (1 ∷ replicate 15 0) (table ((1 ∷ []) ∷ [])) 0 0 0 turnedAway
+    ∷ held zeros (0 ∷ 4 ∷ replicate 14 0) (table ([] ∷ (0 ∷ 1 ∷ []) ∷ [])) 2 3 0 turnedAway
+    ∷ held zeros (0 ∷ 0 ∷ 0 ∷ 1 ∷ replicate 12 0) (table ([] ∷ [] ∷ [] ∷ (0 ∷ 0 ∷ 0 ∷ 1 ∷ []) ∷ [])) 2 3 0 turnedAway
+    ∷ held zeros (3 ∷ 2 ∷ replicate 14 0) (table ((1 ∷ 1 ∷ []) ∷ (1 ∷ 1 ∷ []) ∷ [])) 2 3 0 turnedAway
+    ∷ held zeros (3 ∷ 2 ∷ replicate 14 0) (table ((2 ∷ 0 ∷ []) ∷ (1 ∷ 1 ∷ []) ∷ [])) 2 3 0 turnedAway
+    ∷ held zeros (3 ∷ 2 ∷ replicate 14 0) (table ((2 ∷ 1 ∷ []) ∷ (2 ∷ 1 ∷ []) ∷ [])) 2 3 0 turnedAway
+    ∷ held zeros (replicate 16 0) (replicate 255 0 ++ (1 ∷ [])) 2 3 0 turnedAway
     ∷ []
 
 -- The greatest sizes without a bit pass 5.
 unfoldable pub noBits : Row
 noBits =
-    held zeros (replicate 16 0) 64 16 15
+    held zeros (replicate 16 0) (table []) 64 16 15
     (prints (size 1 1 0) ("no 22 0" ∷ [])
     ∷ prints (shift 63 15 one nought nought) []
     ∷ prints (shift 63 15 one nought nought) ("no 23 16143" ∷ [])
@@ -717,7 +722,7 @@ noBits =
 -- So do they with every bit.
 unfoldable pub allBits : Row
 allBits =
-    held zeros (replicate 16 18446744073709551615) 64 16 15
+    held zeros (replicate 16 18446744073709551615) (replicate 256 64) 64 16 15
     (prints (size 1 1 0) ("no 22 0" ∷ [])
     ∷ prints (sevenfold 63 15 infinity) ("no 23 16143" ∷ [])
     ∷ [])
@@ -725,7 +730,7 @@ allBits =
 -- And of every bit Withdraw clears the last, and no other.
 unfoldable pub lastWithdrawn : Row
 lastWithdrawn =
-    held zeros (replicate 16 18446744073709551615) 64 16 15
+    held zeros (replicate 16 18446744073709551615) (replicate 256 64) 64 16 15
     (prints (withdraw 63 16) ("no 12 16144" ∷ [])
     ∷ prints (withdraw 64 15) ("no 12 16399" ∷ [])
     ∷ prints (withdraw 63 15) []
@@ -740,7 +745,7 @@ lastWithdrawn =
 -- The last bit that smaller sizes allow passes 5, too.
 unfoldable pub lastBit : Row
 lastBit =
-    held zeros (0 ∷ 0 ∷ 2 ∷ replicate 13 0) 2 3 0
+    held zeros (0 ∷ 0 ∷ 2 ∷ replicate 13 0) (table ([] ∷ [] ∷ (0 ∷ 0 ∷ 1 ∷ []) ∷ [])) 2 3 0
     (prints (shift 1 2 one nought nought) ("no 23 258" ∷ [])
     ∷ prints (shift 1 1 one nought nought) []
     ∷ [])
@@ -756,15 +761,15 @@ oneCell = replicate 119 0 ++ (replicate 7 0x7ff0_0000_0000_0000 ++ replicate 704
 -- "The numbers of an empty cell are ignored": with nothing held it is 8.
 unfoldable pub notFiniteHeld : List Row
 notFiniteHeld =
-    held infinities (4 ∷ 6 ∷ replicate 14 0) 3 3 0 (prints solve ("no 7 4" ∷ []) ∷ [])
-    ∷ held oneCell (3 ∷ 3 ∷ replicate 14 0) 2 2 0 (prints solve ("no 7 3" ∷ []) ∷ [])
-    ∷ held infinities (replicate 16 0) 3 3 0 (prints solve ("no 8 6" ∷ []) ∷ [])
+    held infinities (4 ∷ 6 ∷ replicate 14 0) (table ((1 ∷ 1 ∷ []) ∷ (1 ∷ 2 ∷ []) ∷ [])) 3 3 0 (prints solve ("no 7 4" ∷ []) ∷ [])
+    ∷ held oneCell (3 ∷ 3 ∷ replicate 14 0) (table ((2 ∷ 2 ∷ []) ∷ (2 ∷ 2 ∷ []) ∷ [])) 2 2 0 (prints solve ("no 7 3" ∷ []) ∷ [])
+    ∷ held infinities (replicate 16 0) (table []) 3 3 0 (prints solve ("no 8 6" ∷ []) ∷ [])
     ∷ []
 
 -- "the empty cell's no longer matter": the infinities of view 1 and camera 1, the only pose of that camera, give 7 until it is withdrawn, and then 8.
 unfoldable pub notFiniteWithdrawn : Row
 notFiniteWithdrawn =
-    held oneCell (1 ∷ 2 ∷ replicate 14 0) 2 2 0
+    held oneCell (1 ∷ 2 ∷ replicate 14 0) (table ((1 ∷ []) ∷ (0 ∷ 1 ∷ []) ∷ [])) 2 2 0
     (prints solve ("no 7 3" ∷ []) ∷ prints (withdraw 1 1) [] ∷ prints solve ("no 8 2" ∷ []) ∷ [])
 
 -- Buffers of zeros with one number that is not finite: the last of the last cell, and the first of view 1 and camera 0.
@@ -777,16 +782,16 @@ firstOfViewOne = replicate 112 0 ++ (0xfff0_0000_0000_0000 ∷ replicate 7055 0)
 -- 7 of Solve with 64 views and 16 cameras: in the last cell, with view 0 and the two cells beside it held as well; and in view 1 with every cell held.
 unfoldable pub oneNotFinite : List Row
 oneNotFinite =
-    held lastNumber (replicate 14 1 ++ (9223372036854775809 ∷ 13835058055282163713 ∷ [])) 64 16 0 (prints solve ("no 7 1023" ∷ []) ∷ [])
-    ∷ held firstOfViewOne (replicate 16 18446744073709551615) 64 16 0 (prints solve ("no 7 16" ∷ []) ∷ [])
+    held lastNumber (replicate 14 1 ++ (9223372036854775809 ∷ 13835058055282163713 ∷ [])) (replicate 224 1 ++ (replicate 14 1 ++ (2 ∷ 2 ∷ (replicate 14 1 ++ (2 ∷ 3 ∷ []))))) 64 16 0 (prints solve ("no 7 1023" ∷ []) ∷ [])
+    ∷ held firstOfViewOne (replicate 16 18446744073709551615) (replicate 256 64) 64 16 0 (prints solve ("no 7 16" ∷ []) ∷ [])
     ∷ []
 
 -- "an accepted Pose writes those seven only", in a buffer of infinities: the last cell is finite afterwards, so that Solve is 8; camera 15 of view 62 is,
 -- and camera 0 of view 63, which follows it and is held, is not.
 unfoldable pub sevenWritten : List Row
 sevenWritten =
-    held infinities (replicate 16 0) 64 16 15 (prints (shift 63 15 one nought nought) [] ∷ prints solve ("no 8 32767" ∷ []) ∷ [])
-    ∷ held infinities (9223372036854775808 ∷ replicate 15 0) 64 16 15 (prints (shift 62 15 one nought nought) [] ∷ prints solve ("no 7 1008" ∷ []) ∷ [])
+    held infinities (replicate 16 0) (table []) 64 16 15 (prints (shift 63 15 one nought nought) [] ∷ prints solve ("no 8 32767" ∷ []) ∷ [])
+    ∷ held infinities (9223372036854775808 ∷ replicate 15 0) (table ((1 ∷ []) ∷ [])) 64 16 15 (prints (shift 62 15 one nought nought) [] ∷ prints solve ("no 7 1008" ∷ []) ∷ [])
     ∷ []
 
 -- Rows that the program can be run on.
@@ -864,8 +869,8 @@ nextCommand =
     ∷ calledAt 0 59 (fresh (prints (shift 0 0 one nought nought) ("no 21 0" ∷ []) ∷ prints solve [] ∷ []))
     ∷ calledAt 1 5 (fresh (prints (0 ∷ []) [] ∷ prints (size 1 1 0) [] ∷ prints solve [] ∷ []))
     ∷ calledAt 4 5 (fresh (prints (size 1 1 0) [] ∷ prints solve ("no 21 0" ∷ []) ∷ prints solve [] ∷ []))
-    ∷ calledAt 0 3 (held zeros (1 ∷ replicate 15 0) 1 1 0 (prints (withdraw 0 0) [] ∷ prints solve [] ∷ []))
-    ∷ calledAt 1 4 (held zeros (replicate 16 0) 1 1 0 (prints (9 ∷ []) [] ∷ prints (withdraw 0 0) ("no 24 0" ∷ []) ∷ prints solve [] ∷ []))
+    ∷ calledAt 0 3 (held zeros (1 ∷ replicate 15 0) (table ((1 ∷ []) ∷ [])) 1 1 0 (prints (withdraw 0 0) [] ∷ prints solve [] ∷ []))
+    ∷ calledAt 1 4 (held zeros (replicate 16 0) (table []) 1 1 0 (prints (9 ∷ []) [] ∷ prints (withdraw 0 0) ("no 24 0" ∷ []) ∷ prints solve [] ∷ []))
     ∷ []
 
 -- "5, 10, 11 and 13 end the stream: the next offset is then its length." 13 before 5.

@@ -26,7 +26,7 @@ use Rattle.placing.specs.declared.grid.Cell.the-variants.{Empty, Held}
 use Rattle.extrinsics.specs.Outcome.{answered, gridRefusal}
 use Rattle.extrinsics.proofs.MaskUnion.{inMask-zero}
 use Rattle.command.specs.Command.{Command, edit, solve, Parsed, complete, broken, unknown, parse}
-use Rattle.session_record.specs.Session.{cellStart, hasSize, rigOf, sessionGrid}
+use Rattle.session_record.specs.Session.{heldOf, cellStart, hasSize, rigOf, sessionGrid}
 use Rattle.session.specs.Commands.{editRefusal, editSession, commandRefusal, sessionAfter, bufferAfter}
 use Rattle.session.specs.Solve.{firstAfterSolve, secondAfterSolve}
 use Rattle.session.specs.Call.{maxStream, State, result, unusable, firstAfter, secondAfter, stateAfter, callRefusal, read, call}
@@ -61,19 +61,19 @@ module _ (s : Session) (sixteen : length (s .masks) ≡ maxCameras) (b b′ : Li
       go (no h) =
           absurd (true≢false (sym bit ∙ ap (λ (m : ℕ). inMask m v) (List·getD-eq-default (s .masks) 0 (omega (arith, sixteen))) ∙ inMask-zero v))
 
-  cell-alike : (v c : ℕ) → rigCell (rigOf s) b v c ≡ rigCell (rigOf s) b′ v c
+  cell-alike : (v c : ℕ) → rigCell (rigOf (heldOf s)) b v c ≡ rigCell (rigOf (heldOf s)) b′ v c
   unfolding rigCell maskedCell
   cell-alike v c =
       held-or-empty (inMask (getD (s .masks) c 0) v) (poseAt b (cellStart v c)) (poseAt b′ (cellStart v c))
       (λ bit. poseAt-agree b b′ (cellStart v c) (same v c (bit-inside v c bit) bit))
 
-  pub grid-alike : sessionGrid s b ≡ sessionGrid s b′
+  pub grid-alike : sessionGrid (heldOf s) b ≡ sessionGrid (heldOf s) b′
   unfolding rigGrid
   grid-alike =
       let grid : List Cell → Grid = λ l. record { views = s .views; cameras = s .cameras; reference = s .reference; cells = l } in
       ap grid
-      (tabulate-agree (s .views * s .cameras) (λ i. rigCell (rigOf s) b (i / s .cameras) (i % s .cameras))
-      (λ i. rigCell (rigOf s) b′ (i / s .cameras) (i % s .cameras)) (λ i h. cell-alike (i / s .cameras) (i % s .cameras)))
+      (tabulate-agree (s .views * s .cameras) (λ i. rigCell (rigOf (heldOf s)) b (i / s .cameras) (i % s .cameras))
+      (λ i. rigCell (rigOf (heldOf s)) b′ (i / s .cameras) (i % s .cameras)) (λ i h. cell-alike (i / s .cameras) (i % s .cameras)))
 
 -- ---- one command
 
@@ -82,21 +82,21 @@ pub since-now : {t t′ : State} → Alike t t′ → AlikeSince (t .buffer) (t�
 since-now same = record { alike = same; no-new-difference = λ i e. e }
 
 module _ (t t′ : State) (same : Alike t t′) where
-  same-grid : sessionGrid (t .session) (t .buffer) ≡ sessionGrid (t′ .session) (t′ .buffer)
+  same-grid : sessionGrid (heldOf (t .session)) (t .buffer) ≡ sessionGrid (heldOf (t′ .session)) (t′ .buffer)
   same-grid =
       grid-alike (t .session) (same .sixteen) (t .buffer) (t′ .buffer) (same .same-held)
-      ∙ ap (λ (s : Session). sessionGrid s (t′ .buffer)) (same .same-session)
+      ∙ ap (λ (s : Session). sessionGrid (heldOf s) (t′ .buffer)) (same .same-session)
 
-  same-refusal : (command : Command) → commandRefusal (t .session) (t .buffer) command ≡ commandRefusal (t′ .session) (t′ .buffer) command
+  same-refusal : (command : Command) → commandRefusal (heldOf (t .session)) (t .buffer) command ≡ commandRefusal (heldOf (t′ .session)) (t′ .buffer) command
   unfolding commandRefusal
-  same-refusal (edit change) = ap (λ (s : Session). editRefusal s change) (same .same-session)
+  same-refusal (edit change) = ap (λ (s : Session). editRefusal (heldOf s) change) (same .same-session)
   same-refusal solve =
       solve-checks (t .session) (t .buffer)
-      ∙ ap₂ (λ (s : Session) (g : Grid). firstOf (refuseIf (not (hasSize s)) NoSize ∷ gridRefusal g ∷ [])) (same .same-session) same-grid
+      ∙ ap₂ (λ (s : Session) (g : Grid). firstOf (refuseIf (not (hasSize (heldOf s))) NoSize ∷ gridRefusal g ∷ [])) (same .same-session) same-grid
       ∙ sym (solve-checks (t′ .session) (t′ .buffer))
 
-  also : {o : Option Refusal} (command : Command) → commandRefusal (t .session) (t .buffer) command ≡ o
-      → commandRefusal (t′ .session) (t′ .buffer) command ≡ o
+  also : {o : Option Refusal} (command : Command) → commandRefusal (heldOf (t .session)) (t .buffer) command ≡ o
+      → commandRefusal (heldOf (t′ .session)) (t′ .buffer) command ≡ o
   also command e = sym (same-refusal command) ∙ e
 
   usable-alike : Usable t → Usable t′
@@ -110,7 +110,7 @@ module _ (t t′ : State) (same : Alike t t′) where
 
   module _ (u : Usable t) where
     -- What an accepted command leaves of both.
-    accepted-alike : (command : Command) → commandRefusal (t .session) (t .buffer) command ≡ none
+    accepted-alike : (command : Command) → commandRefusal (heldOf (t .session)) (t .buffer) command ≡ none
         → AlikeSince (t .buffer) (t′ .buffer) (stateAfter t command) (stateAfter t′ command)
     unfolding commandRefusal stateAfter sessionAfter bufferAfter firstAfter secondAfter firstAfterSolve secondAfterSolve
     accepted-alike (edit change) e =
@@ -143,16 +143,16 @@ module _ (t t′ : State) (same : Alike t t′) where
         }
 
     same-reply : (command : Command) → answerTo t command .reply ≡ answerTo t′ command .reply
-    same-reply command = go (commandRefusal (t .session) (t .buffer) command) refl
+    same-reply command = go (commandRefusal (heldOf (t .session)) (t .buffer) command) refl
       where
-        go : (o : Option Refusal) → commandRefusal (t .session) (t .buffer) command ≡ o → answerTo t command .reply ≡ answerTo t′ command .reply
+        go : (o : Option Refusal) → commandRefusal (heldOf (t .session)) (t .buffer) command ≡ o → answerTo t command .reply ≡ answerTo t′ command .reply
         go none e = cc (answerTo-accepted t command e, answerTo-accepted t′ command (also command e))
         go (some r) e = cc (answerTo-refused t command r e, answerTo-refused t′ command r (also command e))
 
     after-alike : (command : Command) → AlikeSince (t .buffer) (t′ .buffer) (answerTo t command .after) (answerTo t′ command .after)
-    after-alike command = go (commandRefusal (t .session) (t .buffer) command) refl
+    after-alike command = go (commandRefusal (heldOf (t .session)) (t .buffer) command) refl
       where
-        go : (o : Option Refusal) → commandRefusal (t .session) (t .buffer) command ≡ o
+        go : (o : Option Refusal) → commandRefusal (heldOf (t .session)) (t .buffer) command ≡ o
             → AlikeSince (t .buffer) (t′ .buffer) (answerTo t command .after) (answerTo t′ command .after)
         go none e = rw (answerTo-accepted t command e, answerTo-accepted t′ command (also command e)) (accepted-alike command e)
         go (some r) e = rw (answerTo-refused t command r e, answerTo-refused t′ command r (also command e)) (since-now same)

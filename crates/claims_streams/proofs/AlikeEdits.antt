@@ -13,7 +13,7 @@ use Rattle.arithmetic.specs.declared.pose.Pose.{Pose}
 use Rattle.limits.specs.Limits.{maxCameras}
 use Rattle.lists.specs.Masks.{inMask}
 use Rattle.command.specs.Command.{Edit}
-use Rattle.session_record.specs.Session.{bufferLength, cellStart}
+use Rattle.session_record.specs.Session.{heldOf, bufferLength, cellStart}
 use Rattle.session.specs.Commands.{editRefusal, editSession, editBuffer}
 use Rattle.session_record.specs.declared.Session.{Session}
 use Rattle.claims_streams.specs.Held.{cellAfter, writes, HoldsCell}
@@ -45,7 +45,7 @@ module _ (masks : List ℕ) (b b′ : List Float) (v c : ℕ) where
 
 -- ---- one accepted edit
 
-module _ (change : Edit) (s : Session) (accepted : editRefusal s change ≡ none) (sound : Sound s) (sixteen : length (s .masks) ≡ maxCameras)
+module _ (change : Edit) (s : Session) (accepted : editRefusal (heldOf s) change ≡ none) (sound : Sound s) (sixteen : length (s .masks) ≡ maxCameras)
     (b b′ : List Float) (fits : length b ≡ bufferLength) (fits′ : length b′ ≡ bufferLength) where
   abbrev masks-after : List ℕ
   masks-after = editSession s change .masks

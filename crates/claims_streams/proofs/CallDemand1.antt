@@ -20,6 +20,7 @@ use Rattle.claims_direct.specs.Deciding.{Check, Decides, AllSilent}
 use Rattle.claims_direct.proofs.GridRefusals.{orElse-none}
 use Rattle.lists.proofs.Tests.{or-false}
 use Rattle.command.specs.Command.{size, place, withdraw, Command, edit, solve, sizeByte, poseByte, solveByte, withdrawByte, sizeWidth, poseWidth, solveWidth, withdrawWidth, complete, parse, offeredPose}
+use Rattle.session_record.specs.Session.{heldOf}
 use Rattle.session.specs.Commands.{commandRefusal, Left}
 use Rattle.session.specs.Call.{State, state, result, callRefusal, replyTo, stateAfter, obeyed, read, call, Called}
 use Rattle.session.specs.Inner.Steps.{resultOf}
@@ -322,20 +323,20 @@ module _ (t : State) (stream : List ℕ) (at : ℕ) where
 
         -- A whole command, refused or not.
         demand-obeyed : (command : Command) (width : ℕ) → BeginsOfWidth stream at width → at + width ≤ length stream
-            → parse stream at ≡ complete command width → Comes (commandChecks t stream at) (commandRefusal (t .session) (t .buffer) command)
-            → (commandRefusal (t .session) (t .buffer) command ≡ none → Comes checks none
+            → parse stream at ≡ complete command width → Comes (commandChecks t stream at) (commandRefusal (heldOf (t .session)) (t .buffer) command)
+            → (commandRefusal (heldOf (t .session)) (t .buffer) command ≡ none → Comes checks none
             → CallDemand1 t stream at (result (replyTo command) (stateAfter t command) (at + width)))
             → CallDemand1 t stream at (call t stream at)
         unfolding orElse read
-        demand-obeyed command width begins fits parsed commands accepted = go (commandRefusal (t .session) (t .buffer) command) refl
+        demand-obeyed command width begins fits parsed commands accepted = go (commandRefusal (heldOf (t .session)) (t .buffer) command) refl
           where
             obeys : call t stream at ≡ obeyed t command (at + width)
             obeys = reads ∙ ap (read t stream at) parsed
 
-            comes : Comes checks (commandRefusal (t .session) (t .buffer) command)
-            comes = comes-after none (commandRefusal (t .session) (t .buffer) command) (comes-whole stream at t width begins fits) (λ f. commands)
+            comes : Comes checks (commandRefusal (heldOf (t .session)) (t .buffer) command)
+            comes = comes-after none (commandRefusal (heldOf (t .session)) (t .buffer) command) (comes-whole stream at t width begins fits) (λ f. commands)
 
-            go : (o : Option Refusal) → commandRefusal (t .session) (t .buffer) command ≡ o → CallDemand1 t stream at (call t stream at)
+            go : (o : Option Refusal) → commandRefusal (heldOf (t .session)) (t .buffer) command ≡ o → CallDemand1 t stream at (call t stream at)
             go none f =
                 subst (CallDemand1 t stream at) (sym (obeys ∙ obeyed-accepted t command (at + width) f)) (accepted f (subst (Comes checks) f comes))
             go (some q) f =

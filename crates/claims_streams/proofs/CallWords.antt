@@ -35,13 +35,14 @@ use Rattle.claims_direct.proofs.GridRefusals.{orElse-none}
 use Rattle.command.specs.Command.{size, place, withdraw, edit, solve, complete, broken, unknown, sizeByte, poseByte, solveByte, withdrawByte, sizeWidth, poseWidth, solveWidth, withdrawWidth, wordAt, doubleAt, offeredPose, widthOf, parse}
 use Rattle.command.specs.Inner.Parts.{widthOrZero}
 use Rattle.command.proofs.Decoding.{parse-foreign, parse-short, parse-size, parse-place, parse-withdraw, parse-solve}
-use Rattle.session_record.specs.Session.{hasSize, sessionGrid, namedCell, possible}
+use Rattle.session_record.specs.Session.{heldOf, hasSize, sessionGrid, namedCell, possible}
 use Rattle.session.specs.Commands.{editRefusal, editSession, commandRefusal, sessionAfter, Left, left-fresh, left-after}
 use Rattle.session_record.specs.declared.Session.{Session}
 use Rattle.session.specs.Call.{maxStream, State, callRefusal, unusable}
 use Rattle.claims_streams.specs.Stream.{Usable}
 use Rattle.claims_streams.specs.DirectInputs.{countsOf, marksOf, floatsOf}
 use Rattle.claims_streams.specs.CallDemand1.{lowByteFirst, Begins, BeginsOfWidth, operand, floatOffered, OffersNotFinite, acceptedSizes, NoSizeYet, SizeBefore, sizeCommandChecks, poseCommandChecks, withdrawCommandChecks, solveCommandChecks, CannotBeUsed, firstChecks, readingChecks}
+use Rattle.claims_streams.proofs.Sound.{T-true, true-T}
 use Rattle.claims_streams.proofs.Accepting.{solve-checks}
 use Rattle.claims_streams.proofs.Edits.Law.{ViewsAfter}
 use Rattle.claims_streams.proofs.Edits.Size.{size-checks}
@@ -60,21 +61,14 @@ true-of : (b : Bool) → (b ≡ false → ⊥) → b ≡ true
 true-of true h = refl
 true-of false h = absurd (h refl)
 
-or-true : (a b : Bool) → a || b ≡ true → (a ≡ true) ⊎ (b ≡ true)
+pub or-true : (a b : Bool) → a || b ≡ true → (a ≡ true) ⊎ (b ≡ true)
 or-true true b e = inl refl
 or-true false b e = inr e
 
-true-or : (a b : Bool) → (a ≡ true) ⊎ (b ≡ true) → a || b ≡ true
+pub true-or : (a b : Bool) → (a ≡ true) ⊎ (b ≡ true) → a || b ≡ true
 true-or true b e = refl
 true-or false b (inl e) = absurd (false≢true e)
 true-or false b (inr e) = e
-
-T-true : (b : Bool) → T b → b ≡ true
-T-true true h = refl
-T-true false h = absurd h
-
-true-T : (b : Bool) → b ≡ true → T b
-true-T b e = rw e tt
 
 -- A list of checks in the last place of a list of checks.
 last-flat : (check : Option Refusal) (checks : List (Option Refusal)) → firstOf (check ∷ firstOf checks ∷ []) ≡ firstOf (check ∷ checks)
@@ -277,7 +271,7 @@ unsized-views (left-after {s = s} buffer (edit change) before f) e = go (edit-la
 unsized-views (left-after buffer solve before f) e = unsized-views before e
 
 module _ (s : Session) (left : Left s) where
-  no-size-yet : (not (hasSize s) ≡ true) ↔ NoSizeYet s
+  pub no-size-yet : (not (hasSize (heldOf s)) ≡ true) ↔ NoSizeYet s
   no-size-yet = (
     λ e.
         let none-yet : s .views ≡ 0 = eqb-true _ _ (not-false _ (not-true _ e)) in
@@ -285,7 +279,7 @@ module _ (s : Session) (left : Left s) where
     λ (l, z). rw (eq-eqb _ _ (unsized-views l z)) refl,
   )
 
-  size-before : (hasSize s ≡ true) ↔ SizeBefore s
+  size-before : (hasSize (heldOf s) ≡ true) ↔ SizeBefore s
   size-before = (
     λ e.
         let some-view : s .views ≡ 0 → ⊥ = eqb-false _ _ (not-true _ e) in
@@ -300,20 +294,20 @@ module _ (stream : List ℕ) (at : ℕ) (t : State) (left : Left (t .session)) w
   sizeOptions = sizeFound (operand stream at 1) (operand stream at 2) (operand stream at 3)
 
   pub comes-size : Comes (sizeCommandChecks t stream at)
-      (editRefusal (t .session) (size (operand stream at 1) (operand stream at 2) (operand stream at 3)))
+      (editRefusal (heldOf (t .session)) (size (operand stream at 1) (operand stream at 2) (operand stream at 3)))
   unfolding sizeRefusal
   comes-size =
       subst (Comes (sizeCommandChecks t stream at)) (sym one-list)
-      (comes-carried (sizeCommandChecks t stream at) (refuseIf (hasSize (t .session)) SizeAgain ∷ sizeOptions) (
-        refuseIf-plain (hasSize (t .session)) SizeAgain (SizeBefore (t .session)) refl (size-before (t .session) left),
+      (comes-carried (sizeCommandChecks t stream at) (refuseIf (hasSize (heldOf (t .session))) SizeAgain ∷ sizeOptions) (
+        refuseIf-plain (hasSize (heldOf (t .session))) SizeAgain (SizeBefore (t .session)) refl (size-before (t .session) left),
         λ e. sizes-carried (operand stream at 1) (operand stream at 2) (operand stream at 3) [] [] (λ sizes. tt),
       ))
     where
-      one-list : editRefusal (t .session) (size (operand stream at 1) (operand stream at 2) (operand stream at 3))
-          ≡ firstOf (refuseIf (hasSize (t .session)) SizeAgain ∷ sizeOptions)
+      one-list : editRefusal (heldOf (t .session)) (size (operand stream at 1) (operand stream at 2) (operand stream at 3))
+          ≡ firstOf (refuseIf (hasSize (heldOf (t .session))) SizeAgain ∷ sizeOptions)
       one-list =
           size-checks (t .session) (operand stream at 1) (operand stream at 2) (operand stream at 3)
-          ∙ last-flat (refuseIf (hasSize (t .session)) SizeAgain) sizeOptions
+          ∙ last-flat (refuseIf (hasSize (heldOf (t .session))) SizeAgain) sizeOptions
 
 -- ---- Pose: 21, 12, 23, 7
 
@@ -383,11 +377,11 @@ module _ (stream : List ℕ) (at : ℕ) where
     abbrev held : Bool
     held = inMask (getD (t .session .masks) camera 0) view
 
-    pub comes-pose : Comes (poseCommandChecks t stream at) (editRefusal (t .session) (place view camera offer))
+    pub comes-pose : Comes (poseCommandChecks t stream at) (editRefusal (heldOf (t .session)) (place view camera offer))
     comes-pose =
         subst (Comes (poseCommandChecks t stream at)) (sym (place-checks (t .session) view camera offer))
         (comes-carried (poseCommandChecks t stream at) (placeChecks (t .session) view camera offer) (
-          refuseIf-plain (not (hasSize (t .session))) NoSize (NoSizeYet (t .session)) refl (no-size-yet (t .session) left),
+          refuseIf-plain (not (hasSize (heldOf (t .session)))) NoSize (NoSizeYet (t .session)) refl (no-size-yet (t .session) left),
           λ e₁. (
             outside-carries (t .session) view camera,
             λ e₂. (
@@ -405,11 +399,11 @@ module _ (stream : List ℕ) (at : ℕ) where
 
     -- ---- Withdraw: 21, 12, 24
 
-    pub comes-withdraw : Comes (withdrawCommandChecks t stream at) (editRefusal (t .session) (withdraw view camera))
+    pub comes-withdraw : Comes (withdrawCommandChecks t stream at) (editRefusal (heldOf (t .session)) (withdraw view camera))
     comes-withdraw =
         subst (Comes (withdrawCommandChecks t stream at)) (sym (withdraw-checks (t .session) view camera))
         (comes-carried (withdrawCommandChecks t stream at) (withdrawChecks (t .session) view camera) (
-          refuseIf-plain (not (hasSize (t .session))) NoSize (NoSizeYet (t .session)) refl (no-size-yet (t .session) left),
+          refuseIf-plain (not (hasSize (heldOf (t .session)))) NoSize (NoSizeYet (t .session)) refl (no-size-yet (t .session) left),
           λ e₁. (
             outside-carries (t .session) view camera,
             λ e₂. (
@@ -424,7 +418,7 @@ module _ (stream : List ℕ) (at : ℕ) where
 
 module _ (t : State) (u : Usable t) (left : Left (t .session)) (stream : List ℕ) (at : ℕ) where
   abbrev own : Grid
-  own = sessionGrid (t .session) (t .buffer)
+  own = sessionGrid (heldOf (t .session)) (t .buffer)
 
   abbrev gridOptions : Grid → List (Option Refusal)
   gridOptions g = notFinite g ∷ unreached g ∷ emptyView g ∷ []
@@ -477,12 +471,12 @@ module _ (t : State) (u : Usable t) (left : Left (t .session)) (stream : List �
       none-of-sizes : AllNone (sizeFound (length counts) (getD counts 0 0) reference)
       none-of-sizes = firstOf-none-all (sizeFound (length counts) (getD counts 0 0) reference) (none-of .0)
 
-  pub comes-solve : Comes (solveCommandChecks t stream at) (commandRefusal (t .session) (t .buffer) solve)
+  pub comes-solve : Comes (solveCommandChecks t stream at) (commandRefusal (heldOf (t .session)) (t .buffer) solve)
   unfolding gridRefusal
   comes-solve =
-      subst (Comes (solveCommandChecks t stream at)) (sym (solve-checks (t .session) (t .buffer) ∙ last-flat (refuseIf (not (hasSize (t .session))) NoSize) (gridOptions own)))
-      (comes-carried (solveCommandChecks t stream at) (refuseIf (not (hasSize (t .session))) NoSize ∷ gridOptions own) (
-        refuseIf-plain (not (hasSize (t .session))) NoSize (NoSizeYet (t .session)) refl (no-size-yet (t .session) left),
+      subst (Comes (solveCommandChecks t stream at)) (sym (solve-checks (t .session) (t .buffer) ∙ last-flat (refuseIf (not (hasSize (heldOf (t .session)))) NoSize) (gridOptions own)))
+      (comes-carried (solveCommandChecks t stream at) (refuseIf (not (hasSize (heldOf (t .session)))) NoSize ∷ gridOptions own) (
+        refuseIf-plain (not (hasSize (heldOf (t .session)))) NoSize (NoSizeYet (t .session)) refl (no-size-yet (t .session) left),
         λ e.
             let different = eqb-false (t .session .views) 0 (not-true _ (not-false _ (refuseIf-none _ _ e))) in
             grid-carried (omega arith),

@@ -28,7 +28,7 @@ use Rattle.lists.proofs.Tabulated.{getD-tabulate}
 use Rattle.claims_direct.proofs.GridRefusals.{left, gridRefusal-unreached, gridRefusal-emptyView}
 use Rattle.claims_direct.proofs.HeldCells.{some-column}
 use Rattle.command.specs.Command.{Command, solve}
-use Rattle.session_record.specs.Session.{fresh, bufferLength, cellStart, hasSize, rigOf, sessionGrid, possible}
+use Rattle.session_record.specs.Session.{heldOf, fresh, bufferLength, cellStart, hasSize, rigOf, sessionGrid, possible}
 use Rattle.session.specs.Commands.{commandRefusal}
 use Rattle.session.specs.Call.{maxStream, firstLength, secondLength, State, state}
 use Rattle.session_record.specs.declared.Session.{Session}
@@ -62,19 +62,19 @@ finite-marked false p f = refl
 -- 7 finds nothing where every pose that the masks mark is finite.
 finite-grid : (s : Session) (buffer : List Float) → T (possible s)
     → ((v c : ℕ) → c < maxCameras → T (inMask (getD (s .masks) c 0) v) → T (finitePose (poseAt buffer (cellStart v c))))
-    → notFinite (sessionGrid s buffer) ≡ none
+    → notFinite (sessionGrid (heldOf s) buffer) ≡ none
 unfolding notFinite lowestNotFinite rigGrid
 finite-grid s buffer allowed each =
-    refuseAt-none (lowestNotFinite (sessionGrid s buffer)) NotFinite
-    (lowest-nothing (λ i. isNotFinite (getD (sessionGrid s buffer .cells) i Empty)) (s .views * s .cameras) cell-finite)
+    refuseAt-none (lowestNotFinite (sessionGrid (heldOf s) buffer)) NotFinite
+    (lowest-nothing (λ i. isNotFinite (getD (sessionGrid (heldOf s) buffer .cells) i Empty)) (s .views * s .cameras) cell-finite)
   where
-    cell-finite : (i : ℕ) → i < s .views * s .cameras → isNotFinite (getD (sessionGrid s buffer .cells) i Empty) ≡ false
+    cell-finite : (i : ℕ) → i < s .views * s .cameras → isNotFinite (getD (sessionGrid (heldOf s) buffer .cells) i Empty) ≡ false
     cell-finite i h =
         let some-camera : 0 < s .cameras = some-column i (s .views) (s .cameras) h in
         let cameras-fit : s .cameras ≤ maxCameras = within-limits s allowed .1 in
         let v = i / s .cameras in
         let c = i % s .cameras in
-        ap isNotFinite (getD-tabulate (s .views * s .cameras) (λ j. rigCell (rigOf s) buffer (j / s .cameras) (j % s .cameras)) Empty i h)
+        ap isNotFinite (getD-tabulate (s .views * s .cameras) (λ j. rigCell (rigOf (heldOf s)) buffer (j / s .cameras) (j % s .cameras)) Empty i h)
         ∙ finite-marked (inMask (getD (s .masks) c 0) v) (poseAt buffer (cellStart v c)) (each v c (omega (arith, mod-lt i some-camera)))
 
 -- ---- what Solve refuses
@@ -89,11 +89,11 @@ grid-not-7 g finite n e = go (left g) refl (lowestEmptyView g) refl
     go [] f none h = let z : _≡_ {A = ℕ} 0 1 = cc (gridRefusal-emptyView g finite f) in omega arith
     go [] f (some v) h = let z : _≡_ {A = ℕ} 0 1 = cc (gridRefusal-emptyView g finite f) in omega arith
 
-solve-not-7 : (s : Session) (buffer : List Float) → notFinite (sessionGrid s buffer) ≡ none
-    → (n : ℕ) → commandRefusal s buffer solve ≡ some (NotFinite n) → ⊥
+solve-not-7 : (s : Session) (buffer : List Float) → notFinite (sessionGrid (heldOf s) buffer) ≡ none
+    → (n : ℕ) → commandRefusal (heldOf s) buffer solve ≡ some (NotFinite n) → ⊥
 unfolding firstOf refuseIf
 solve-not-7 s buffer finite n e =
-    go (hasSize s) (gridRefusal (sessionGrid s buffer)) (grid-not-7 (sessionGrid s buffer) finite n) (sym (solve-checks s buffer) ∙ e)
+    go (hasSize (heldOf s)) (gridRefusal (sessionGrid (heldOf s) buffer)) (grid-not-7 (sessionGrid (heldOf s) buffer) finite n) (sym (solve-checks s buffer) ∙ e)
   where
     go : (sized : Bool) (o : Option Refusal) → (o ≡ some (NotFinite n) → ⊥) → firstOf (refuseIf (not sized) NoSize ∷ o ∷ []) ≡ some (NotFinite n) → ⊥
     go true none other f = other f
@@ -113,7 +113,7 @@ module _ (buffer first : List Float) (second : List ℕ) (buffer-fits : length b
 
   -- After any commands 7 finds nothing in "the grid that masks and buffer hold".
   pub held-finite : (commands : List Command)
-      → notFinite (sessionGrid (stateAfterAll start commands .session) (stateAfterAll start commands .buffer)) ≡ none
+      → notFinite (sessionGrid (heldOf (stateAfterAll start commands .session)) (stateAfterAll start commands .buffer)) ≡ none
   held-finite commands =
       finite-grid (stateAfterAll start commands .session) (stateAfterAll start commands .buffer) (usable-after-all commands start usable .record-possible)
       (λ v c h.
@@ -130,6 +130,6 @@ module _ (buffer first : List Float) (second : List ℕ) (buffer-fits : length b
 
   -- "Solve checks 7, 8, 9": here 7 never refuses it.
   pub never-7-at-solve : (commands : List Command) (n : ℕ)
-      → commandRefusal (stateAfterAll start commands .session) (stateAfterAll start commands .buffer) solve ≡ some (NotFinite n) → ⊥
+      → commandRefusal (heldOf (stateAfterAll start commands .session)) (stateAfterAll start commands .buffer) solve ≡ some (NotFinite n) → ⊥
   never-7-at-solve commands =
       solve-not-7 (stateAfterAll start commands .session) (stateAfterAll start commands .buffer) (held-finite commands)

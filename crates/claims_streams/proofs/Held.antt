@@ -15,7 +15,7 @@ use Rattle.lists.specs.Masks.{inMask}
 use Rattle.extrinsics.proofs.MaskUnion.{inMask-zero}
 use Rattle.lists.proofs.Tests.{or-false}
 use Rattle.command.specs.Command.{Edit, Command, edit, solve}
-use Rattle.session_record.specs.Session.{fresh, bufferLength, cellStart}
+use Rattle.session_record.specs.Session.{heldOf, fresh, bufferLength, cellStart}
 use Rattle.session.specs.Commands.{editRefusal, commandRefusal, sessionAfter, bufferAfter}
 use Rattle.session.specs.Call.{maxStream, firstLength, secondLength, State, state, replyTo, stateAfter}
 use Rattle.claims_streams.specs.Stream.{contentsOf, Answer, answerTo, stateAfterAll, lastState, calls, Usable}
@@ -34,13 +34,13 @@ acceptedIn-reply (edit change) = refl
 acceptedIn-reply solve = refl
 
 module _ (t : State) (command : Command) (later : List Command) where
-  acceptedEdits-refused : (r : Refusal) → commandRefusal (t .session) (t .buffer) command ≡ some r
+  acceptedEdits-refused : (r : Refusal) → commandRefusal (heldOf (t .session)) (t .buffer) command ≡ some r
       → acceptedEdits t (command ∷ later) ≡ acceptedEdits (answerTo t command .after) later
   unfolding acceptedEdits acceptedIn
   acceptedEdits-refused r e =
       ap (λ (a : Answer). acceptedIn command (a .reply) ++ acceptedEdits (answerTo t command .after) later) (answerTo-refused t command r e)
 
-  acceptedEdits-accepted : commandRefusal (t .session) (t .buffer) command ≡ none
+  acceptedEdits-accepted : commandRefusal (heldOf (t .session)) (t .buffer) command ≡ none
       → acceptedEdits t (command ∷ later) ≡ editsIn command ++ acceptedEdits (answerTo t command .after) later
   unfolding acceptedEdits
   acceptedEdits-accepted e =
@@ -77,7 +77,7 @@ module _ (t : State) (u : Usable t) where
   masks-accepted (edit change) = edit-law change .masks-kept (t .session)
   masks-accepted solve = refl
 
-  cells-accepted : length (t .session .masks) ≡ maxCameras → (command : Command) → commandRefusal (t .session) (t .buffer) command ≡ none
+  cells-accepted : length (t .session .masks) ≡ maxCameras → (command : Command) → commandRefusal (heldOf (t .session)) (t .buffer) command ≡ none
       → (v c : ℕ) (o : Option Pose) → c < maxCameras → HoldsCell (t .session .masks) (t .buffer) v c o
       → HoldsCell (stateAfter t command .session .masks) (stateAfter t command .buffer) v c (heldFrom o (editsIn command) v c)
   unfolding commandRefusal stateAfter sessionAfter bufferAfter heldFrom editsIn
@@ -85,7 +85,7 @@ module _ (t : State) (u : Usable t) where
       edit-law change .cells-after (t .session) (t .buffer) e sound sixteen (u .buffer-fits) v c o h before
   cells-accepted sixteen solve e v c o h before = before
 
-  floats-accepted : (command : Command) → commandRefusal (t .session) (t .buffer) command ≡ none → (v c : ℕ) → c < maxCameras
+  floats-accepted : (command : Command) → commandRefusal (heldOf (t .session)) (t .buffer) command ≡ none → (v c : ℕ) → c < maxCameras
       → written (editsIn command) v c ≡ false
       → (k : ℕ) → k < 7 → getD (stateAfter t command .buffer) (cellStart v c + k) nan ≡ getD (t .buffer) (cellStart v c + k) nan
   unfolding commandRefusal stateAfter bufferAfter written editsIn
@@ -93,7 +93,7 @@ module _ (t : State) (u : Usable t) where
       edit-law change .others-kept (t .session) (t .buffer) e sound (u .buffer-fits) v c h (or-false _ _ names .0)
   floats-accepted solve e v c h names = λ k l. refl
 
-  finite-accepted : (command : Command) → commandRefusal (t .session) (t .buffer) command ≡ none → (v c : ℕ) (o : Option Pose)
+  finite-accepted : (command : Command) → commandRefusal (heldOf (t .session)) (t .buffer) command ≡ none → (v c : ℕ) (o : Option Pose)
       → FiniteCell o → FiniteCell (heldFrom o (editsIn command) v c)
   unfolding commandRefusal heldFrom editsIn
   finite-accepted (edit change) e v c o before = edit-law change .finite-after (t .session) e v c o before
@@ -101,9 +101,9 @@ module _ (t : State) (u : Usable t) where
 
   -- A command, refused or not, leaves as many masks.
   pub masks-after : length (t .session .masks) ≡ maxCameras → (command : Command) → length (answerTo t command .after .session .masks) ≡ maxCameras
-  masks-after sixteen command = go (commandRefusal (t .session) (t .buffer) command) refl
+  masks-after sixteen command = go (commandRefusal (heldOf (t .session)) (t .buffer) command) refl
     where
-      go : (o : Option Refusal) → commandRefusal (t .session) (t .buffer) command ≡ o → length (answerTo t command .after .session .masks) ≡ maxCameras
+      go : (o : Option Refusal) → commandRefusal (heldOf (t .session)) (t .buffer) command ≡ o → length (answerTo t command .after .session .masks) ≡ maxCameras
       go none e = ap (λ (a : Answer). length (a .after .session .masks)) (answerTo-accepted t command e) ∙ masks-accepted command ∙ sixteen
       go (some r) e = ap (λ (a : Answer). length (a .after .session .masks)) (answerTo-refused t command r e) ∙ sixteen
 
@@ -114,7 +114,7 @@ cells-all : (commands : List Command) (t : State) → Usable t → length (t .se
     → HoldsCell (stateAfterAll t commands .session .masks) (stateAfterAll t commands .buffer) v c (heldFrom o (acceptedEdits t commands) v c)
 unfolding stateAfterAll
 cells-all [] t u s v c o h before = subst (HoldsCell (t .session .masks) (t .buffer) v c) (sym (heldFrom-none t v c o)) before
-cells-all (command ∷ later) t u s v c o h before = go (commandRefusal (t .session) (t .buffer) command) refl (cells-all later after (usable-answer t u command) (masks-after t u s command) v c)
+cells-all (command ∷ later) t u s v c o h before = go (commandRefusal (heldOf (t .session)) (t .buffer) command) refl (cells-all later after (usable-answer t u command) (masks-after t u s command) v c)
   where
     after : State
     after = answerTo t command .after
@@ -122,7 +122,7 @@ cells-all (command ∷ later) t u s v c o h before = go (commandRefusal (t .sess
     Leaves : Option Pose → Answer → Type 0
     Leaves x a = HoldsCell (a .after .session .masks) (a .after .buffer) v c x
 
-    go : (r : Option Refusal) → commandRefusal (t .session) (t .buffer) command ≡ r
+    go : (r : Option Refusal) → commandRefusal (heldOf (t .session)) (t .buffer) command ≡ r
         → ((x : Option Pose) → c < maxCameras → HoldsCell (after .session .masks) (after .buffer) v c x
         → HoldsCell (stateAfterAll after later .session .masks) (stateAfterAll after later .buffer) v c (heldFrom x (acceptedEdits after later) v c))
         → HoldsCell (stateAfterAll after later .session .masks) (stateAfterAll after later .buffer) v c (heldFrom o (acceptedEdits t (command ∷ later)) v c)
@@ -138,7 +138,7 @@ floats-all : (commands : List Command) (t : State) → Usable t → (v c : ℕ) 
     → (k : ℕ) → k < 7 → getD (stateAfterAll t commands .buffer) (cellStart v c + k) nan ≡ getD (t .buffer) (cellStart v c + k) nan
 unfolding stateAfterAll
 floats-all [] t u v c h names k l = refl
-floats-all (command ∷ later) t u v c h names k l = go (commandRefusal (t .session) (t .buffer) command) refl (floats-all later after (usable-answer t u command) v c h)
+floats-all (command ∷ later) t u v c h names k l = go (commandRefusal (heldOf (t .session)) (t .buffer) command) refl (floats-all later after (usable-answer t u command) v c h)
   where
     after : State
     after = answerTo t command .after
@@ -146,7 +146,7 @@ floats-all (command ∷ later) t u v c h names k l = go (commandRefusal (t .sess
     float : Answer → Float
     float a = getD (a .after .buffer) (cellStart v c + k) nan
 
-    go : (r : Option Refusal) → commandRefusal (t .session) (t .buffer) command ≡ r
+    go : (r : Option Refusal) → commandRefusal (heldOf (t .session)) (t .buffer) command ≡ r
         → (written (acceptedEdits after later) v c ≡ false
         → (k : ℕ) → k < 7 → getD (stateAfterAll after later .buffer) (cellStart v c + k) nan ≡ getD (after .buffer) (cellStart v c + k) nan)
         → getD (stateAfterAll after later .buffer) (cellStart v c + k) nan ≡ getD (t .buffer) (cellStart v c + k) nan
@@ -164,12 +164,12 @@ floats-all (command ∷ later) t u v c h names k l = go (commandRefusal (t .sess
 -- An accepted Pose was checked for 7, and nothing else is held.
 finite-all : (commands : List Command) (t : State) → Usable t → (v c : ℕ) (o : Option Pose) → FiniteCell o → FiniteCell (heldFrom o (acceptedEdits t commands) v c)
 finite-all [] t u v c o before = subst FiniteCell (sym (heldFrom-none t v c o)) before
-finite-all (command ∷ later) t u v c o before = go (commandRefusal (t .session) (t .buffer) command) refl (finite-all later after (usable-answer t u command) v c)
+finite-all (command ∷ later) t u v c o before = go (commandRefusal (heldOf (t .session)) (t .buffer) command) refl (finite-all later after (usable-answer t u command) v c)
   where
     after : State
     after = answerTo t command .after
 
-    go : (r : Option Refusal) → commandRefusal (t .session) (t .buffer) command ≡ r
+    go : (r : Option Refusal) → commandRefusal (heldOf (t .session)) (t .buffer) command ≡ r
         → ((x : Option Pose) → FiniteCell x → FiniteCell (heldFrom x (acceptedEdits after later) v c))
         → FiniteCell (heldFrom o (acceptedEdits t (command ∷ later)) v c)
     go none e rest =
@@ -208,7 +208,7 @@ module _ (buffer first : List Float) (second : List ℕ) (buffer-fits : length b
   finite-held commands v c = finite-all commands start usable-start v c none tt
 
   -- An edit that is accepted after commands writes to no cell that then holds a pose: no pose is written over.
-  pub written-into-empty : (commands : List Command) (change : Edit) → editRefusal (stateAfterAll start commands .session) change ≡ none
+  pub written-into-empty : (commands : List Command) (change : Edit) → editRefusal (heldOf (stateAfterAll start commands .session)) change ≡ none
       → (v c : ℕ) → c < maxCameras → writes change v c ≡ true → heldAfter (acceptedEdits start commands) v c ≡ none
   written-into-empty commands change e v c h names =
       go (heldAfter (acceptedEdits start commands) v c) (held-exactly commands .cells v c h)

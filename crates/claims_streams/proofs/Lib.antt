@@ -18,6 +18,7 @@ pub mod SolveInStreams
 pub mod FiniteHeld
 pub mod DecidingParts
 pub mod CallWords
+pub mod TrueEntries
 pub mod AcceptedCalls
 pub mod CallDemand1
 pub mod LastNaming

@@ -20,17 +20,19 @@ use Rattle.lists.specs.Masks.{inMask}
 use Rattle.lists.proofs.MaskBits.{inMask-mod, mod-next-set, mod-next-clear}
 use Rattle.inputs.proofs.Answering.{Sizes}
 use Rattle.command.specs.Command.{size, place, Command, edit, solve}
-use Rattle.session_record.specs.Session.{fresh, possible}
+use Rattle.shared_counts.specs.Summary.{entryCount, summaryOf}
+use Rattle.shared_counts.proofs.Summaries.{summary-of-nothing}
+use Rattle.session_record.specs.Session.{heldOf, summed, fresh, possible}
 use Rattle.session.specs.Commands.{commandRefusal, sessionAfter, Left, left-fresh, left-after}
 use Rattle.session_record.specs.declared.Session.{Session}
-use Rattle.claims_streams.proofs.Sound.{NoSizes, Sound, sound-of-possible, possible-of-sound, sound-fresh}
+use Rattle.claims_streams.proofs.Sound.{NoSizes, Sound, sound-of-possible, possible-of-sound, summed-held, sound-fresh}
 use Rattle.claims_streams.proofs.Edits.Size.{accepts-size}
 use Rattle.claims_streams.proofs.Edits.Pose.{accepts-place}
 use Rattle.claims_streams.proofs.Edits.All.{edit-law}
 
 -- ---- accepted commands keep a record sound
 
-pub sound-after : (s : Session) → Sound s → (buffer : List Float) (command : Command) → commandRefusal s buffer command ≡ none → Sound (sessionAfter s command)
+pub sound-after : (s : Session) → Sound s → (buffer : List Float) (command : Command) → commandRefusal (heldOf s) buffer command ≡ none → Sound (sessionAfter s command)
 unfolding commandRefusal sessionAfter
 sound-after s h buffer (edit change) e = edit-law change .sound-after s e h
 sound-after s h buffer solve e = h
@@ -47,7 +49,7 @@ identity-finite = refl
 
 module _ (views cameras reference : ℕ) (sizes : Sizes views cameras reference) where
   abbrev sized : List ℕ → Session
-  sized l = record { masks = l; views = views; cameras = cameras; reference = reference }
+  sized l = summed (record { masks = l; views = views; cameras = cameras; reference = reference })
 
   -- Size leaves a record without bits.
   left-sized : Left (sized (replicate maxCameras 0))
@@ -135,11 +137,17 @@ left-of-sound s long sound = ⊎-elim none-yet some-sizes (sound .sizes)
             ext-getD 0 (s .masks) (replicate maxCameras 0) (long ∙ sym (length-replicate {A = ℕ} maxCameras 0))
             (λ i h. sound .outside i (omega arith) (omega arith) ∙ sym (getD-replicate maxCameras i 0 0 (omega arith)))
 
+        no-entry : s .shared ≡ replicate entryCount 0
+        no-entry = sound .true-summary ∙ ap summaryOf no-bit ∙ summary-of-nothing
+
         is-fresh : s ≡ fresh
-        is-fresh = λ i. record { masks = no-bit i; views = v i; cameras = c i; reference = r i }
+        is-fresh = λ i. record { masks = no-bit i; views = v i; cameras = c i; reference = r i; shared = no-entry i }
 
     some-sizes : Sizes (s .views) (s .cameras) (s .reference) → Left s
-    some-sizes n = left-of-sizes (s .views) (s .cameras) (s .reference) n (s .masks) sound long
+    some-sizes n =
+        subst Left (summed-held s sound)
+        (left-of-sizes (s .views) (s .cameras) (s .reference) n (s .masks)
+        (record { sizes = sound .sizes; inside = sound .inside; outside = sound .outside; true-summary = refl }) long)
 
 -- Accepted commands leave a mask for each of 16 cameras.
 pub left-sixteen : {s : Session} → Left s → length (s .masks) ≡ 16

@@ -27,7 +27,7 @@ use Rattle.placing.proofs.ViewCells.{row-inside, row-quotient, row-remainder, c
 use Rattle.claims_direct.specs.Rust.{numViews, numCameras}
 use Rattle.claims_direct.specs.Encoding.{markFor, poseOf, Encodes, WithinLimits, RoomEnough}
 use Rattle.claims_direct.proofs.SameGrid.{cellFor}
-use Rattle.session_record.specs.Session.{cellStart, rigOf, sessionGrid, possible}
+use Rattle.session_record.specs.Session.{heldOf, cellStart, rigOf, sessionGrid, possible}
 use Rattle.session.specs.Call.{firstLength, secondLength}
 use Rattle.claims_streams.specs.DirectInputs.{countsOf, marksOf, floatsOf}
 use Rattle.claims_streams.specs.RustGrids.{rustCellOf, rustViewOf, rustGridOf}
@@ -90,7 +90,7 @@ module _ (s : Session) (buffer : List Float) where
   poseOf-outside-camera v c h k =
       ap (λ (l : List (Option Pose)). getD l c none) (view-rustGridOf v h) ∙ getD-tabulate-past (s .cameras) (rustCellOf s buffer v) none c k
 
-  rigCell-rust : (v c : ℕ) → rigCell (rigOf s) buffer v c ≡ cellFor (rustCellOf s buffer v c)
+  rigCell-rust : (v c : ℕ) → rigCell (rigOf (heldOf s)) buffer v c ≡ cellFor (rustCellOf s buffer v c)
   unfolding rigCell maskedCell rustCellOf
   rigCell-rust v c = sym (cellFor-cond (inMask (getD (s .masks) c 0) v) (poseAt buffer (cellStart v c)))
 
@@ -153,13 +153,13 @@ module _ (s : Session) (buffer : List Float) where
             second-fits = omega (arith, cameras-rustGridOf, sizes .cameras-fit);
           }
 
-      module _ (finite : notFinite (sessionGrid s buffer) ≡ none) where
-        cell-finite : (v c : ℕ) → v < s .views → c < s .cameras → isNotFinite (rigCell (rigOf s) buffer v c) ≡ false
+      module _ (finite : notFinite (sessionGrid (heldOf s) buffer) ≡ none) where
+        cell-finite : (v c : ℕ) → v < s .views → c < s .cameras → isNotFinite (rigCell (rigOf (heldOf s)) buffer v c) ≡ false
         unfolding notFinite lowestNotFinite rigGrid
         cell-finite v c h k =
-            sym (ap isNotFinite (cellOf-rigCell (rigOf s) buffer v c h k))
-            ∙ lowest-none-fails (λ i. isNotFinite (getD (sessionGrid s buffer .cells) i Empty)) (s .views * s .cameras) (v * s .cameras + c)
-            (refuseAt-nothing (lowestNotFinite (sessionGrid s buffer)) NotFinite finite) (row-inside v (s .views) (s .cameras) c h k)
+            sym (ap isNotFinite (cellOf-rigCell (rigOf (heldOf s)) buffer v c h k))
+            ∙ lowest-none-fails (λ i. isNotFinite (getD (sessionGrid (heldOf s) buffer .cells) i Empty)) (s .views * s .cameras) (v * s .cameras + c)
+            (refuseAt-nothing (lowestNotFinite (sessionGrid (heldOf s) buffer)) NotFinite finite) (row-inside v (s .views) (s .cameras) c h k)
 
         -- "every grid of finite poses within document 01's limits"
         pub session-within-limits : WithinLimits (rustGridOf s buffer)

@@ -14,7 +14,7 @@ use Rattle.claims_direct.proofs.CallAgrees.{call-agrees-with-rust}
 use Rattle.claims_direct.proofs.Demand3.{demand-3}
 use Rattle.claims_direct.proofs.WellFormed.{PassesBefore8, passes-before-8}
 use Rattle.command.specs.Command.{solve}
-use Rattle.session_record.specs.Session.{sessionGrid}
+use Rattle.session_record.specs.Session.{heldOf, sessionGrid}
 use Rattle.session.specs.Call.{State}
 use Rattle.claims_streams.specs.Stream.{Usable, answerTo}
 use Rattle.claims_streams.specs.DirectInputs.{countsOf, marksOf, floatsOf, AsDirect}
@@ -24,7 +24,7 @@ use Rattle.claims_streams.proofs.SolveDirect.{grid-is-direct, inputs-pa
 
 module _ (t : State) (u : Usable t) (some-view : 0 < t .session .views) where
   -- A session that accepted commands left passes 1 to 6; 7 is its own.
-  pub solve-passes-before-8 : notFinite (sessionGrid (t .session) (t .buffer)) ≡ none
+  pub solve-passes-before-8 : notFinite (sessionGrid (heldOf (t .session)) (t .buffer)) ≡ none
       → PassesBefore8 (countsOf (t .session)) (marksOf (t .session)) (floatsOf (t .session) (t .buffer)) (t .session .reference) (length (t .first)) (length (t .second))
   solve-passes-before-8 finite =
       record {
@@ -33,13 +33,13 @@ module _ (t : State) (u : Usable t) (some-view : 0 < t .session .views) where
         passes-7 = sym (ap (λ (g : Grid). notFinite g) (grid-is-direct (t .session) (t .buffer) some-view)) ∙ finite;
       }
 
-  pub solve-well-formed : notFinite (sessionGrid (t .session) (t .buffer)) ≡ none
+  pub solve-well-formed : notFinite (sessionGrid (heldOf (t .session)) (t .buffer)) ≡ none
       → WellFormed (countsOf (t .session)) (marksOf (t .session)) (floatsOf (t .session) (t .buffer)) (t .session .reference) (length (t .first)) (length (t .second))
   solve-well-formed finite =
       passes-before-8 (countsOf (t .session)) (marksOf (t .session)) (floatsOf (t .session) (t .buffer)) (t .session .reference) (length (t .first))
       (length (t .second)) .0 (solve-passes-before-8 finite)
 
-  pub solve-demand-3 : notFinite (sessionGrid (t .session) (t .buffer)) ≡ none → (d : AsDirect t (answerTo t solve))
+  pub solve-demand-3 : notFinite (sessionGrid (heldOf (t .session)) (t .buffer)) ≡ none → (d : AsDirect t (answerTo t solve))
       → Demand3 (countsOf (t .session)) (marksOf (t .session)) (floatsOf (t .session) (t .buffer)) (t .session .reference) (d .outcome)
       (answerTo t solve .after .first) (answerTo t solve .after .second)
   solve-demand-3 finite d =
@@ -48,7 +48,7 @@ module _ (t : State) (u : Usable t) (some-view : 0 < t .session .views) where
 
   -- Demand 2, "every grid of finite poses within document 01's limits": Solve answers on the grid that masks and buffer hold as the Rust
   -- function does.
-  pub solve-demand-2 : notFinite (sessionGrid (t .session) (t .buffer)) ≡ none → (d : AsDirect t (answerTo t solve))
+  pub solve-demand-2 : notFinite (sessionGrid (heldOf (t .session)) (t .buffer)) ≡ none → (d : AsDirect t (answerTo t solve))
       → CallAgrees (estimateExtrinsicsFromCamTargetPoses (rustGridOf (t .session) (t .buffer)) (t .session .reference)) (t .first) (t .second)
       (d .outcome) (answerTo t solve .after .first) (answerTo t solve .after .second)
   solve-demand-2 finite d =

@@ -34,7 +34,7 @@ use Rattle.lists.proofs.Lowest.{lowest-nothing}
 use Rattle.placing.proofs.Filling.{length-gather}
 use Rattle.lists.proofs.Tabulated.{length-tabulate, getD-tabulate, tabulate-agree}
 use Rattle.command.specs.Command.{Command, solve}
-use Rattle.session_record.specs.Session.{cellStart, hasSize, rigOf, sessionGrid, possible}
+use Rattle.session_record.specs.Session.{heldOf, cellStart, hasSize, rigOf, sessionGrid, possible}
 use Rattle.session.specs.Commands.{commandRefusal, sessionAfter, bufferAfter}
 use Rattle.session.specs.Call.{firstLength, secondLength, State, replyTo, firstAfter, secondAfter, stateAfter}
 use Rattle.claims_streams.specs.Stream.{answer, answerTo, stateAfterAll, Usable}
@@ -93,7 +93,7 @@ module _ (s : Session) (buffer : List Float) where
       poseAt-flat (floatsOf s buffer) (7 * i) (poseAt buffer (cellStart (i / s .cameras) (i % s .cameras)))
       (λ k l. getD-gather (λ j. flat (poseAt buffer (cellStart (j / s .cameras) (j % s .cameras)))) (λ j. refl) cells i k h l)
 
-  pub rigCell-marked : (i : ℕ) → i < cells → rigCell (rigOf s) buffer (i / s .cameras) (i % s .cameras) ≡ markedCell (marksOf s) (floatsOf s buffer) i
+  pub rigCell-marked : (i : ℕ) → i < cells → rigCell (rigOf (heldOf s)) buffer (i / s .cameras) (i % s .cameras) ≡ markedCell (marksOf s) (floatsOf s buffer) i
   unfolding rigCell maskedCell markedCell
   rigCell-marked i h =
       held-or-empty (inMask (getD (s .masks) (i % s .cameras) 0) (i / s .cameras)) (poseAt buffer (cellStart (i / s .cameras) (i % s .cameras)))
@@ -117,12 +117,12 @@ module _ (s : Session) (buffer : List Float) where
     first-countsOf = each-countsOf 0 some-view
 
     -- "the grid that masks and buffer hold" is the direct call's.
-    pub grid-is-direct : sessionGrid s buffer ≡ directGrid (countsOf s) (marksOf s) (floatsOf s buffer) (s .reference)
+    pub grid-is-direct : sessionGrid (heldOf s) buffer ≡ directGrid (countsOf s) (marksOf s) (floatsOf s buffer) (s .reference)
     unfolding rigGrid directGrid
     grid-is-direct =
         let grid : ℕ → ℕ → List Cell → Grid = λ v c l. record { views = v; cameras = c; reference = s .reference; cells = l } in
         ap (grid (s .views) (s .cameras))
-        (tabulate-agree cells (λ i. rigCell (rigOf s) buffer (i / s .cameras) (i % s .cameras)) (markedCell (marksOf s) (floatsOf s buffer)) rigCell-marked)
+        (tabulate-agree cells (λ i. rigCell (rigOf (heldOf s)) buffer (i / s .cameras) (i % s .cameras)) (markedCell (marksOf s) (floatsOf s buffer)) rigCell-marked)
         ∙ ap₂ (λ (v c : ℕ). grid v c (tabulate (v * c) (markedCell (marksOf s) (floatsOf s buffer)))) (sym length-countsOf) (sym first-countsOf)
 
     -- The record is one that accepted commands could leave, and the lent answers have "at least 560 floats and 32 bytes".
@@ -177,12 +177,12 @@ module _ (s : Session) (buffer : List Float) where
           (sizes-pass, (counts-pass, (lengths-pass, (marks-pass, tt))))
 
       -- So the direct call refuses what Solve refuses.
-      pub solve-refusal-direct : commandRefusal s buffer solve ≡ directRefusal (countsOf s) (marksOf s) (floatsOf s buffer) (s .reference) firstRoom secondRoom
+      pub solve-refusal-direct : commandRefusal (heldOf s) buffer solve ≡ directRefusal (countsOf s) (marksOf s) (floatsOf s buffer) (s .reference) firstRoom secondRoom
       unfolding directRefusal
       solve-refusal-direct =
           solve-checks s buffer
-          ∙ firstOf-none (refuseIf (not (hasSize s)) NoSize) (gridRefusal (sessionGrid s buffer) ∷ [])
-          (refuseIf-false (not (hasSize s)) NoSize (ap (λ (b : Bool). not (not b)) (ne-eqb (s .views) 0 (omega arith))))
+          ∙ firstOf-none (refuseIf (not (hasSize (heldOf s))) NoSize) (gridRefusal (sessionGrid (heldOf s) buffer) ∷ [])
+          (refuseIf-false (not (hasSize (heldOf s))) NoSize (ap (λ (b : Bool). not (not b)) (ne-eqb (s .views) 0 (omega arith))))
           ∙ ap (λ (g : Grid). firstOf (gridRefusal g ∷ [])) grid-is-direct
           ∙ sym (firstOf-none (inputRefusal (countsOf s) (marksOf s) (length (floatsOf s buffer)) (s .reference) firstRoom secondRoom)
           (gridRefusal (directGrid (countsOf s) (marksOf s) (floatsOf s buffer) (s .reference)) ∷ []) inputs-pass)
@@ -193,7 +193,7 @@ module _ (t : State) (u : Usable t) (some-view : 0 < t .session .views) where
   abbrev refusal : Option Refusal
   refusal = directRefusal (countsOf (t .session)) (marksOf (t .session)) (floatsOf (t .session) (t .buffer)) (t .session .reference) (length (t .first)) (length (t .second))
 
-  same-refusal : commandRefusal (t .session) (t .buffer) solve ≡ refusal
+  same-refusal : commandRefusal (heldOf (t .session)) (t .buffer) solve ≡ refusal
   same-refusal =
       solve-refusal-direct (t .session) (t .buffer) some-view (u .record-possible)
       (length (t .first)) (length (t .second)) (u .first-fits) (u .second-fits)

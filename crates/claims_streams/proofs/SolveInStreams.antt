@@ -8,7 +8,7 @@ use lib.ListN.{length, getD}
 use lib.Seq.{getD-at}
 use Rattle.extrinsics.specs.Outcome.{notFinite}
 use Rattle.command.specs.Command.{Command, solve}
-use Rattle.session_record.specs.Session.{sessionGrid}
+use Rattle.session_record.specs.Session.{heldOf, sessionGrid}
 use Rattle.session.specs.Call.{maxStream, State}
 use Rattle.claims_streams.specs.Stream.{contentsOf, Answer, answer, answerTo, answers, stateAfterAll, endingReply, answersOf, calls, Usable}
 use Rattle.claims_streams.specs.DirectInputs.{AsDirect}
@@ -59,7 +59,7 @@ module _ (t : State) (u : Usable t) (stream : List ℕ) (short : length stream �
     solve-in-stream-direct outside = subst (AsDirect then) (sym (answer-of-solve outside)) (solve-after t u before some-view)
 
     -- Where every held number is finite, as both demands ask.
-    pub solve-in-stream : notFinite (sessionGrid (stateAfterAll t before .session) (stateAfterAll t before .buffer)) ≡ none
+    pub solve-in-stream : notFinite (sessionGrid (heldOf (stateAfterAll t before .session)) (stateAfterAll t before .buffer)) ≡ none
         → (outside : Answer) → AsDemanded (stateAfterAll t before) (getD (calls t stream) (length before) outside)
     solve-in-stream finite outside =
         let direct : AsDirect then (answerTo then solve) = solve-after t u before some-view in

@@ -3,7 +3,7 @@ use Prim.Native.Nat.{ℕ, zero, suc, _^_, _≤_, _<_}
 use native.Mathlib.Decide.{decLt}
 use native.Mathlib.Nat.{eq-or-lt-of-le, le-of-suc-le-suc}
 use native.Mathlib.Omega.{arith}
-use mathlib.Core.Path.{_≡_, refl, subst}
+use mathlib.Core.Path.{_≡_, refl, sym, ap, subst}
 use mathlib.Core.Logic.{_↔_, _⊎_, inl, inr, ⊎-elim}
 use mathlib.Core.Bool.{Bool, true, false, _&&_, _||_, cond}
 use mathlib.Core.Option.{Option, none, some}
@@ -14,7 +14,10 @@ use Rattle.refusal.specs.declared.Refusal.{Refusal}
 use Rattle.limits.specs.Limits.{maxViews, maxCameras}
 use Rattle.inputs.specs.Inputs.{sizeRefusal}
 use Rattle.inputs.proofs.Answering.{Sizes, sizeRefusal-none, sizeRefusal-sizes}
-use Rattle.session_record.specs.Session.{fresh, allBelow, isNone, possibleSizes, maskFits, possibleMasks, possible}
+use Rattle.lists.specs.Finding.{allBelow}
+use Rattle.shared_counts.specs.Summary.{summaryOf, isSummary}
+use Rattle.shared_counts.proofs.Summaries.{summary-of-isSummary, isSummary-of-summary, summary-of-nothing}
+use Rattle.session_record.specs.Session.{heldOf, sessionOf, summed, fresh, isNone, possibleSizes, maskFits, possibleMasks, possibleHeld, possible}
 use Rattle.session_record.specs.declared.Session.{Session}
 
 -- ---- what the check asks, as plain facts
@@ -22,11 +25,19 @@ use Rattle.session_record.specs.declared.Session.{Session}
 abbrev pub NoSizes : Session → Type 0
 NoSizes s = (s .views ≡ 0) × (s .cameras ≡ 0) × (s .reference ≡ 0)
 
--- No sizes at all, or sizes that Size takes; and no bit outside them.
+-- No sizes at all, or sizes that Size takes; no bit outside them; and the summary of the masks.
 pub record Sound (s : Session) : Type 0 where
   pub sizes : NoSizes s ⊎ Sizes (s .views) (s .cameras) (s .reference)
   pub inside : (c : ℕ) → c < maxCameras → c < s .cameras → getD (s .masks) c 0 < 2 ^ s .views
   pub outside : (c : ℕ) → c < maxCameras → s .cameras ≤ c → getD (s .masks) c 0 ≡ 0
+  pub true-summary : s .shared ≡ summaryOf (s .masks)
+
+pub T-true : (b : Bool) → T b → b ≡ true
+T-true true h = refl
+T-true false h = absurd h
+
+pub true-T : (b : Bool) → b ≡ true → T b
+true-T b e = rw e tt
 
 T-and : (a b : Bool) → T (a && b) ↔ (T a × T b)
 T-and true b = (λ t. (tt, t), λ h. h .1)
@@ -76,21 +87,21 @@ module _ (s : Session) where
       back : NoSizes s → T noSizes
       back (v, c, r) = rw (v, c, r) tt
 
-  sizes-fact : T (possibleSizes s) ↔ (NoSizes s ⊎ Sizes (s .views) (s .cameras) (s .reference))
+  sizes-fact : T (possibleSizes (heldOf s)) ↔ (NoSizes s ⊎ Sizes (s .views) (s .cameras) (s .reference))
   sizes-fact = (
     λ t. ⊎-elim (λ n. inl (noSizes-fact .0 n)) (λ n. inr (sizeRefusal-none _ _ _ (T-isNone _ .0 n))) (T-or noSizes someSizes .0 t),
     λ h. T-or noSizes someSizes .1 (⊎-elim (λ n. inl (noSizes-fact .1 n)) (λ n. inr (T-isNone _ .1 (sizeRefusal-sizes _ _ _ n))) h),
   )
 
-  masks-fact : T (possibleMasks s)
+  masks-fact : T (possibleMasks (heldOf s))
       ↔ (((c : ℕ) → c < maxCameras → c < s .cameras → getD (s .masks) c 0 < 2 ^ s .views)
       × ((c : ℕ) → c < maxCameras → s .cameras ≤ c → getD (s .masks) c 0 ≡ 0))
   masks-fact = (forth, back)
     where
-      one : (c : ℕ) → T (possibleMasks s) → c < maxCameras → getD (s .masks) c 0 < bound c
-      one c t l = ltb→lt _ _ (allBelow-each (maskFits s) maxCameras .0 t c l)
+      one : (c : ℕ) → T (possibleMasks (heldOf s)) → c < maxCameras → getD (s .masks) c 0 < bound c
+      one c t l = ltb→lt _ _ (allBelow-each (maskFits (heldOf s)) maxCameras .0 t c l)
 
-      forth : T (possibleMasks s)
+      forth : T (possibleMasks (heldOf s))
           → (((c : ℕ) → c < maxCameras → c < s .cameras → getD (s .masks) c 0 < 2 ^ s .views)
           × ((c : ℕ) → c < maxCameras → s .cameras ≤ c → getD (s .masks) c 0 ≡ 0))
       forth t = (
@@ -99,28 +110,38 @@ module _ (s : Session) where
       )
 
       back : ((c : ℕ) → c < maxCameras → c < s .cameras → getD (s .masks) c 0 < 2 ^ s .views)
-          × ((c : ℕ) → c < maxCameras → s .cameras ≤ c → getD (s .masks) c 0 ≡ 0) → T (possibleMasks s)
-      back (inside, outside) = allBelow-each (maskFits s) maxCameras .1 (λ c l. go c l (decLt c (s .cameras)))
+          × ((c : ℕ) → c < maxCameras → s .cameras ≤ c → getD (s .masks) c 0 ≡ 0) → T (possibleMasks (heldOf s))
+      back (inside, outside) = allBelow-each (maskFits (heldOf s)) maxCameras .1 (λ c l. go c l (decLt c (s .cameras)))
         where
-          go : (c : ℕ) → c < maxCameras → Dec (c < s .cameras) → T (maskFits s c)
+          go : (c : ℕ) → c < maxCameras → Dec (c < s .cameras) → T (maskFits (heldOf s) c)
           go c l (yes k) = lt→ltb (getD (s .masks) c 0) (bound c) (rw (lt-ltb c (s .cameras) k) (inside c l k))
           go c l (no k) = lt→ltb (getD (s .masks) c 0) (bound c) (rw (le-ltb c (s .cameras) (omega arith), outside c l (omega arith)) (omega arith))
 
-  possible-parts : T (possible s) ↔ (T (possibleSizes s) × T (possibleMasks s))
+  held-parts : T (possibleHeld (heldOf s)) ↔ (T (possibleSizes (heldOf s)) × T (possibleMasks (heldOf s)))
+  unfolding possibleHeld
+  held-parts = T-and (possibleSizes (heldOf s)) (possibleMasks (heldOf s))
+
+  possible-parts : T (possible s) ↔ (T (possibleHeld (heldOf s)) × T (isSummary (s .masks) (s .shared)))
   unfolding possible
-  possible-parts = T-and (possibleSizes s) (possibleMasks s)
+  possible-parts = T-and (possibleHeld (heldOf s)) (isSummary (s .masks) (s .shared))
 
   pub sound-of-possible : T (possible s) → Sound s
   sound-of-possible t =
-      let (sized, fit) = possible-parts .0 t in
+      let (held, entries) = possible-parts .0 t in
+      let (sized, fit) = held-parts .0 held in
       record {
         sizes = sizes-fact .0 sized;
         inside = masks-fact .0 fit .0;
         outside = masks-fact .0 fit .1;
+        true-summary = summary-of-isSummary (s .masks) (s .shared) (T-true _ entries);
       }
 
   pub possible-of-sound : Sound s → T (possible s)
-  possible-of-sound h = possible-parts .1 (sizes-fact .1 (h .sizes), masks-fact .1 (h .inside, h .outside))
+  possible-of-sound h =
+      possible-parts .1 (
+        held-parts .1 (sizes-fact .1 (h .sizes), masks-fact .1 (h .inside, h .outside)),
+        true-T _ (isSummary-of-summary (s .masks) (s .shared) (h .true-summary)),
+      )
 
 -- ---- sound records
 
@@ -130,9 +151,17 @@ sound-fresh =
       sizes = inl (refl, refl, refl);
       inside = λ c l k. absurd (omega arith);
       outside = λ c l k. getD-replicate 16 c 0 0 l;
+      true-summary = sym summary-of-nothing;
     }
 
+pub possible-fresh : possible fresh ≡ true
+possible-fresh = T-true (possible fresh) (possible-of-sound fresh sound-fresh)
+
 module _ (s : Session) (h : Sound s) where
+  -- The summary is told by the masks.
+  pub summed-held : summed (heldOf s) ≡ s
+  summed-held = ap (sessionOf (heldOf s)) (sym (h .true-summary))
+
   -- Without sizes no mask has a bit.
   pub no-bits : s .views ≡ 0 → (c : ℕ) → c < maxCameras → getD (s .masks) c 0 ≡ 0
   no-bits e c l = h .outside c l (⊎-elim (λ n. omega (arith, n .1)) (λ n. absurd (omega (arith, n .some-views))) (h .sizes))

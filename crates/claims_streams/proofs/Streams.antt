@@ -21,7 +21,7 @@ use Rattle.inputs.proofs.Answering.{refuseIf-none, firstOf-none-all}
 use Rattle.inputs.proofs.InTurn.{If, if-firstOf, if-refuseIf, if-refuseAt}
 use Rattle.command.specs.Command.{Command, edit, solve, Parsed, complete, broken, unknown, parse}
 use Rattle.command.specs.Framing.{Ending, clean, unknownByte, brokenAt}
-use Rattle.session_record.specs.Session.{hasSize, sessionGrid}
+use Rattle.session_record.specs.Session.{heldOf, hasSize, sessionGrid}
 use Rattle.session.specs.Commands.{commandRefusal}
 use Rattle.session.specs.Call.{maxStream, State, Result, result, callRefusal, stopped, replyTo, obeyed, read, call, unusable}
 use Rattle.claims_streams.specs.Stream.{Contents, contents, contentsFrom, restOf, contentsOf, Answer, answer, answerTo, answers, stateAfterAll, lastState, streamRefusal, endingReply, answersOf, meaning, endsStream, callsFrom, calls, Usable}
@@ -47,13 +47,13 @@ goes-on-grid g =
       ),
     )
 
-goes-on-command : (s : Session) (buffer : List Float) (command : Command) → If GoesOn (commandRefusal s buffer command)
+goes-on-command : (s : Session) (buffer : List Float) (command : Command) → If GoesOn (commandRefusal (heldOf s) buffer command)
 unfolding commandRefusal endsStream
 goes-on-command s buffer (edit change) = edit-law change .goes-on s
 goes-on-command s buffer solve =
     subst (If GoesOn) (sym (solve-checks s buffer))
-    (if-firstOf GoesOn (refuseIf (not (hasSize s)) NoSize ∷ gridRefusal (sessionGrid s buffer) ∷ [])
-    (if-refuseIf GoesOn (not (hasSize s)) NoSize refl, λ e. (goes-on-grid (sessionGrid s buffer), λ e. tt)))
+    (if-firstOf GoesOn (refuseIf (not (hasSize (heldOf s))) NoSize ∷ gridRefusal (sessionGrid (heldOf s) buffer) ∷ [])
+    (if-refuseIf GoesOn (not (hasSize (heldOf s))) NoSize refl, λ e. (goes-on-grid (sessionGrid (heldOf s) buffer), λ e. tt)))
 
 obeyed-goes-on : (command : Command) → endsStream (replyTo command) ≡ false
 unfolding endsStream replyTo
@@ -62,9 +62,9 @@ obeyed-goes-on solve = refl
 
 -- Neither a command's refusal nor its acceptance ends the stream.
 pub command-goes-on : (t : State) (command : Command) → endsStream (answerTo t command .reply) ≡ false
-command-goes-on t command = go (commandRefusal (t .session) (t .buffer) command) refl (goes-on-command (t .session) (t .buffer) command)
+command-goes-on t command = go (commandRefusal (heldOf (t .session)) (t .buffer) command) refl (goes-on-command (t .session) (t .buffer) command)
   where
-    go : (o : Option Refusal) → commandRefusal (t .session) (t .buffer) command ≡ o → If GoesOn (commandRefusal (t .session) (t .buffer) command)
+    go : (o : Option Refusal) → commandRefusal (heldOf (t .session)) (t .buffer) command ≡ o → If GoesOn (commandRefusal (heldOf (t .session)) (t .buffer) command)
         → endsStream (answerTo t command .reply) ≡ false
     go none e g = rw (answerTo-accepted t command e) (obeyed-goes-on command)
     go (some r) e g = rw (answerTo-refused t command r e) (subst (If GoesOn) e g)
@@ -133,9 +133,9 @@ usable-of-passes t stream e =
 -- A command is obeyed or refused as its answer says.
 pub obeyed-answerTo : (t : State) (command : Command) (next : ℕ) → obeyed t command next ≡ result (answerTo t command .reply) (answerTo t command .after) next
 unfolding obeyed
-obeyed-answerTo t command next = go (commandRefusal (t .session) (t .buffer) command) refl
+obeyed-answerTo t command next = go (commandRefusal (heldOf (t .session)) (t .buffer) command) refl
   where
-    go : (o : Option Refusal) → commandRefusal (t .session) (t .buffer) command ≡ o
+    go : (o : Option Refusal) → commandRefusal (heldOf (t .session)) (t .buffer) command ≡ o
         → obeyed t command next ≡ result (answerTo t command .reply) (answerTo t command .after) next
     go none e = rw (e, obeyed, answerTo-accepted t command e)
     go (some r) e = rw (e, obeyed, answerTo-refused t command r e)

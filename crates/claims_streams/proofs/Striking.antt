@@ -12,6 +12,7 @@ use lib.Seq.{getD-take, length-take-le, take-at, drop-at}
 use Rattle.refusal.specs.declared.Refusal.{Refusal}
 use Rattle.command.specs.Command.{Command, Parsed, complete, broken, unknown, parse}
 use Rattle.command.specs.Framing.{brokenAt}
+use Rattle.session_record.specs.Session.{heldOf}
 use Rattle.session.specs.Commands.{commandRefusal}
 use Rattle.session.specs.Call.{State, maxStream}
 use Rattle.claims_streams.specs.Stream.{Contents, contents, contentsFrom, restOf, contentsOf, Reads, nothing, one-more, struck, earlier, Answer, answer, answerTo, answers, stateAfterAll, answersOf, endingReply, meaning, Usable}
@@ -40,7 +41,7 @@ length-answers (command ∷ later) t = ap suc (length-answers later (answerTo t 
 
 -- The command is refused with r after the commands before it.
 module _ (t : State) (before after : List Command) (command : Command) (r : Refusal)
-    (refused : commandRefusal (stateAfterAll t before .session) (stateAfterAll t before .buffer) command ≡ some r) where
+    (refused : commandRefusal (heldOf (stateAfterAll t before .session)) (stateAfterAll t before .buffer) command ≡ some r) where
   -- Its answer stands between the answers to the commands before it and those after it.
   pub answers-with-refused : answers t (before ++ (command ∷ after))
       ≡ answers t before ++ (answer (Refused r) (stateAfterAll t before) ∷ answers (stateAfterAll t before) after)
@@ -170,7 +171,7 @@ module _ (stream : List ℕ) (before : List Command) (at : ℕ) (command : Comma
 
   -- In a state that passes the checks, and where the command is refused with r.
   module _ (t : State) (r : Refusal) (short : length stream ≤ maxStream) (usable : Usable t)
-      (refused : commandRefusal (stateAfterAll t before .session) (stateAfterAll t before .buffer) command ≡ some r) where
+      (refused : commandRefusal (heldOf (stateAfterAll t before .session)) (stateAfterAll t before .buffer) command ≡ some r) where
     -- The answers to the commands before it, its own refusal, and the answers to all that follows.
     pub meaning-with : meaning t stream
         ≡ answers t before ++ (answer (Refused r) (stateAfterAll t before) ∷ answersOf (stateAfterAll t before) (restOf stream (at + width)))

@@ -17,7 +17,7 @@ use Rattle.limits.specs.Limits.{maxCameras}
 use Rattle.lists.specs.Masks.{inMask}
 use Rattle.command.specs.Command.{Edit, place, withdraw, Command, edit, complete, broken, sizeByte, poseByte, solveByte, withdrawByte, poseWidth, withdrawWidth, offeredPose, widthOf, parse}
 use Rattle.command.proofs.Decoding.{parse-withdraw}
-use Rattle.session_record.specs.Session.{cellStart}
+use Rattle.session_record.specs.Session.{heldOf, summed, withMasks, cellStart}
 use Rattle.session.specs.Pose.{bufferAfterPose}
 use Rattle.session.specs.Commands.{editRefusal, editSession, editBuffer, commandRefusal, sessionAfter, bufferAfter}
 use Rattle.session_record.specs.declared.Session.{Session}
@@ -29,7 +29,7 @@ use Rattle.claims_streams.specs.CallDemand1.{Begins, operand}
 use Rattle.claims_streams.specs.Alike.{Alike}
 use Rattle.claims_streams.specs.TakenBack.{PoseThenWithdrawal, TakenBack}
 use Rattle.claims_streams.specs.Held.{writes}
-use Rattle.claims_streams.proofs.Sound.{Sound, sound-of-possible}
+use Rattle.claims_streams.proofs.Sound.{Sound, summed-held, sound-of-possible}
 use Rattle.claims_streams.proofs.Cells.{getD-put-before, getD-put-after}
 use Rattle.claims_streams.proofs.Usable.{usable-after}
 use Rattle.claims_streams.proofs.Streams.{callRefusal-passes, passes-of-usable}
@@ -41,9 +41,9 @@ use Rattle.claims_streams.proofs.Edits.All.{edit-law}
 
 -- ---- commands
 
-module _ (s : Session) (view camera : ℕ) (p : Pose) (inside : camera < length (s .masks)) (e : editRefusal s (place view camera p) ≡ none) where
+module _ (s : Session) (view camera : ℕ) (p : Pose) (inside : camera < length (s .masks)) (e : editRefusal (heldOf s) (place view camera p) ≡ none) where
   -- Its withdrawal is accepted as the next command.
-  pub withdrawal-accepted : editRefusal (editSession s (place view camera p)) (withdraw view camera) ≡ none
+  pub withdrawal-accepted : editRefusal (heldOf (editSession s (place view camera p))) (withdraw view camera) ≡ none
   unfolding editSession
   withdrawal-accepted =
       let here = place-accepted s view camera p e in
@@ -54,15 +54,12 @@ module _ (s : Session) (view camera : ℕ) (p : Pose) (inside : camera < length 
       })
 
   -- And the record is the one that was there before the two.
-  pub record-back : editSession (editSession s (place view camera p)) (withdraw view camera) ≡ s
+  pub record-back : Sound s → editSession (editSession s (place view camera p)) (withdraw view camera) ≡ s
   unfolding editSession
-  record-back = ap (λ (masks : List ℕ). withMasks masks) masks-back
+  record-back sound = ap (λ (masks : List ℕ). summed (withMasks (heldOf s) masks)) masks-back ∙ summed-held s sound
     where
       m : ℕ
       m = getD (s .masks) camera 0
-
-      withMasks : List ℕ → Session
-      withMasks masks = record { masks = masks; views = s .views; cameras = s .cameras; reference = s .reference }
 
       masks-back : set (set (s .masks) camera (m + 2 ^ view)) camera (getD (set (s .masks) camera (m + 2 ^ view)) camera 0 - 2 ^ view) ≡ s .masks
       masks-back =
@@ -72,7 +69,7 @@ module _ (s : Session) (view camera : ℕ) (p : Pose) (inside : camera < length 
 
 -- In a state that can be used.
 module _ (t : State) (u : Usable t) (sixteen : length (t .session .masks) ≡ maxCameras) (view camera : ℕ) (p : Pose)
-    (e : commandRefusal (t .session) (t .buffer) (edit (place view camera p)) ≡ none) where
+    (e : commandRefusal (heldOf (t .session)) (t .buffer) (edit (place view camera p)) ≡ none) where
   abbrev held : State
   held = stateAfter t (edit (place view camera p))
 
@@ -83,7 +80,7 @@ module _ (t : State) (u : Usable t) (sixteen : length (t .session .masks) ≡ ma
   unfolding commandRefusal
   known = omega (arith, camera-fits (t .session) view camera p (sound-of-possible (t .session) (u .record-possible)) e, sixteen)
 
-  pub withdrawal-passes : commandRefusal (held .session) (held .buffer) (edit (withdraw view camera)) ≡ none
+  pub withdrawal-passes : commandRefusal (heldOf (held .session)) (held .buffer) (edit (withdraw view camera)) ≡ none
   unfolding commandRefusal stateAfter sessionAfter
   withdrawal-passes = withdrawal-accepted (t .session) view camera p known e
 
@@ -99,7 +96,7 @@ module _ (t : State) (u : Usable t) (sixteen : length (t .session .masks) ≡ ma
   withdrawn-alike =
       record {
         sixteen = sixteen;
-        same-session = sym (record-back (t .session) view camera p known e);
+        same-session = sym (record-back (t .session) view camera p known e (sound-of-possible (t .session) (u .record-possible)));
         same-first = refl;
         same-second = refl;
         same-length = sym lengths-back;
@@ -144,22 +141,22 @@ module _ (t : State) (stream : List ℕ) (at : ℕ) (before-end : at < length st
   reads e = call-read t stream at e (omega (arith, before-end)) ∙ ap (read t stream at) parsed
 
   -- A call that is accepted has passed the checks before all else, and its command's own.
-  accepted-passes : call t stream at .reply ≡ Accepted → (callRefusal t stream at ≡ none) × (commandRefusal (t .session) (t .buffer) command ≡ none)
+  accepted-passes : call t stream at .reply ≡ Accepted → (callRefusal t stream at ≡ none) × (commandRefusal (heldOf (t .session)) (t .buffer) command ≡ none)
   accepted-passes accepted = first (callRefusal t stream at) refl
     where
-      own : callRefusal t stream at ≡ none → (o : Option Refusal) → commandRefusal (t .session) (t .buffer) command ≡ o
-          → commandRefusal (t .session) (t .buffer) command ≡ none
+      own : callRefusal t stream at ≡ none → (o : Option Refusal) → commandRefusal (heldOf (t .session)) (t .buffer) command ≡ o
+          → commandRefusal (heldOf (t .session)) (t .buffer) command ≡ none
       own e none f = f
       own e (some q) f =
           absurd (refused-not-accepted q
           (sym (ap (λ (r : Result). r .reply) (reads e ∙ obeyed-refused t command (at + width) q f)) ∙ accepted))
 
       first : (o : Option Refusal) → callRefusal t stream at ≡ o
-          → (callRefusal t stream at ≡ none) × (commandRefusal (t .session) (t .buffer) command ≡ none)
-      first none e = (e, own e (commandRefusal (t .session) (t .buffer) command) refl)
+          → (callRefusal t stream at ≡ none) × (commandRefusal (heldOf (t .session)) (t .buffer) command ≡ none)
+      first none e = (e, own e (commandRefusal (heldOf (t .session)) (t .buffer) command) refl)
       first (some q) e = absurd (refused-not-accepted q (sym (ap (λ (r : Result). r .reply) (call-refused t stream at q e)) ∙ accepted))
 
-  obeys : callRefusal t stream at ≡ none → commandRefusal (t .session) (t .buffer) command ≡ none
+  obeys : callRefusal t stream at ≡ none → commandRefusal (heldOf (t .session)) (t .buffer) command ≡ none
       → call t stream at ≡ result (replyTo command) (stateAfter t command) (at + width)
   obeys e f = reads e ∙ obeyed-accepted t command (at + width) f
 
@@ -196,7 +193,7 @@ module _ (t : State) (stream : List ℕ) (at : ℕ) (sixteen : length (t .sessio
       parse-withdraw stream′ at′ byte (rw byte (both .whole)) .0
       ∙ (λ i. complete (edit (withdraw (both .same-view i) (both .same-camera i))) withdrawWidth)
 
-  passes : (callRefusal t stream at ≡ none) × (commandRefusal (t .session) (t .buffer) (edit (place view camera p)) ≡ none)
+  passes : (callRefusal t stream at ≡ none) × (commandRefusal (heldOf (t .session)) (t .buffer) (edit (place view camera p)) ≡ none)
   passes = accepted-passes t stream at (both .pose-here .0) (edit (place view camera p)) poseWidth pose-parsed accepted
 
   usable : Usable t

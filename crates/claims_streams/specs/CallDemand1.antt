@@ -5,7 +5,7 @@
 use Prim.Native.Nat.{ℕ, zero, suc, _+_, _*_, _≤_, _<_}
 use mathlib.Core.Path.{_≡_}
 use mathlib.Core.Logic.{_≢_, _↔_, _⊎_}
-use mathlib.Core.Bool.{false}
+use mathlib.Core.Bool.{false, _&&_}
 use mathlib.Core.List.{List, [], _∷_, _++_}
 use lib.ListN.{length, getD}
 use lib.Dec.{T}
@@ -13,6 +13,7 @@ use lib.Ieee.{Float, binary64, ofBits, nan}
 use lib.Ieee.Scale.{finite}
 use Rattle.refusal.specs.Table.{numberOf, detailOf}
 use Rattle.refusal.specs.declared.Refusal.{Refusal}
+use Rattle.lists.specs.Finding.{count}
 use Rattle.lists.specs.Masks.{inMask}
 use Rattle.claims_direct.specs.Deciding.{Check, naming, plain, Decides, AllSilent}
 use Rattle.claims_direct.specs.Demand1.{sizeChecks, gridChecks, BeyondUnchanged}
@@ -129,7 +130,7 @@ module _ (t : State) (stream : List ℕ) (at : ℕ) where
 -- ---- the checks of a call
 
 -- 5: "an answer is too short, the session buffer's length is wrong, or a session record handed in has sizes, a reference or mask bits that no accepted
--- commands could leave." "a lent buffer of exactly 7,168 floats", "two lent answers of at least 560 floats and 32 bytes".
+-- commands could leave." "A session record handed in with a false entry is 5." "a lent buffer of exactly 7,168 floats", "two lent answers of at least 560 floats and 32 bytes".
 abbrev pub CannotBeUsed : State → Type 0
 CannotBeUsed t =
     (length (t .buffer) ≢ bufferLength)
@@ -164,12 +165,19 @@ module _ (t : State) (stream : List ℕ) (at : ℕ) where
 
 -- ---- what a call leaves that is not refused, by the bytes of the command
 
+-- "a 16 by 16 summary of shared counts", row by row: "each entry equal to the count over the held poses", and "a camera with itself counts its own poses".
+pub record TrueEntries (s : Session) : Type 0 where
+  pub entry-each : length (s .shared) ≡ 256
+  pub counts : (a b : ℕ) → a < 16 → b < 16
+      → getD (s .shared) (16 * a + b) 0 ≡ count (λ v. inMask (getD (s .masks) a 0) v && inMask (getD (s .masks) b 0) v) 64
+
 -- "0x01 Size: views, cameras, reference; one byte each." The record "also holds the sizes and reference": they are those, and all else stays.
 pub record SizeLeaves (t : State) (stream : List ℕ) (at : ℕ) (t′ : State) : Type 0 where
   pub views-named : t′ .session .views ≡ operand stream at 1
   pub cameras-named : t′ .session .cameras ≡ operand stream at 2
   pub reference-named : t′ .session .reference ≡ operand stream at 3
   pub same-masks : t′ .session .masks ≡ t .session .masks
+  pub true-entries : TrueEntries (t′ .session)
   pub same-buffer : t′ .buffer ≡ t .buffer
   pub same-first : t′ .first ≡ t .first
   pub same-second : t′ .second ≡ t .second
@@ -185,6 +193,7 @@ pub record PoseLeaves (t : State) (stream : List ℕ) (at : ℕ) (t′ : State) 
   pub bit-set : T (inMask (getD (t′ .session .masks) (operand stream at 2) 0) (operand stream at 1))
   pub other-bits : OtherBits t stream at t′
   pub mask-count : length (t′ .session .masks) ≡ length (t .session .masks)
+  pub true-entries : TrueEntries (t′ .session)
   -- The seven floats of the stream, in their order, are the cell's seven.
   pub seven-written : (k : ℕ) → k < 7 → getD (t′ .buffer) (namedStart stream at + k) nan ≡ floatOffered stream at k
   -- "an accepted Pose writes those seven only"
@@ -202,6 +211,7 @@ pub record WithdrawLeaves (t : State) (stream : List ℕ) (at : ℕ) (t′ : Sta
   pub bit-clear : inMask (getD (t′ .session .masks) (operand stream at 2) 0) (operand stream at 1) ≡ false
   pub other-bits : OtherBits t stream at t′
   pub mask-count : length (t′ .session .masks) ≡ length (t .session .masks)
+  pub true-entries : TrueEntries (t′ .session)
   pub same-buffer : t′ .buffer ≡ t .buffer
   pub same-views : t′ .session .views ≡ t .session .views
   pub same-cameras : t′ .session .cameras ≡ t .session .cameras
@@ -213,6 +223,7 @@ pub record WithdrawLeaves (t : State) (stream : List ℕ) (at : ℕ) (t′ : Sta
 -- lengths is unchanged."
 pub record SolveLeaves (t t′ : State) : Type 0 where
   pub same-session : t′ .session ≡ t .session
+  pub true-entries : TrueEntries (t′ .session)
   pub same-buffer : t′ .buffer ≡ t .buffer
   pub beyond-unchanged : BeyondUnchanged (t .session .views) (t .session .cameras) (t .first) (t .second) (t′ .first) (t′ .second)
 

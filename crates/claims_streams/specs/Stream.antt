@@ -3,7 +3,7 @@
 -- Rests on the commands of `Command` and how a stream of them ends in `Framing`, what they do in `Commands`, and one call in `Call`.
 use Prim.Native.Nat.{ℕ, zero, suc, _+_, _-_, _≤_, _<_}
 use mathlib.Core.Path.{_≡_}
-use mathlib.Core.Bool.{Bool, true, false, not, _||_}
+use mathlib.Core.Bool.{Bool, true, false, _||_}
 use mathlib.Core.Option.{Option, none, some}
 use mathlib.Core.List.{List, [], _∷_, _++_}
 use lib.ListN.{length, take, drop}
@@ -13,7 +13,7 @@ use Rattle.refusal.specs.declared.Refusal.{Refusal}
 use Rattle.refusal.specs.declared.Refusal.the-variants.{WrongLength, UnknownCommand, Truncated, TooLong}
 use Rattle.command.specs.Framing.{Ending, clean, unknownByte, brokenAt}
 use Rattle.command.specs.Command.{Command, complete, broken, unknown, parse}
-use Rattle.session_record.specs.Session.{bufferLength, possible}
+use Rattle.session_record.specs.Session.{heldOf, bufferLength, possible}
 use Rattle.session.specs.Commands.{commandRefusal}
 use Rattle.session.specs.Call.{unusable, maxStream, firstLength, secondLength, State, replyTo, stateAfter, call}
 use Rattle.session.specs.declared.Reply.{Reply}
@@ -85,7 +85,7 @@ answer r t = record { reply = r; after = t }
 -- "A refused command changes neither session nor buffer".
 unfoldable pub answerTo : State → Command → Answer
 answerTo t command =
-    elim (commandRefusal (t .session) (t .buffer) command) [ some r ↦ answer (Refused r) t | none ↦ answer (replyTo command) (stateAfter t command) ]
+    elim (commandRefusal (heldOf (t .session)) (t .buffer) command) [ some r ↦ answer (Refused r) t | none ↦ answer (replyTo command) (stateAfter t command) ]
 
 unfoldable pub answers : State → List Command → List Answer
 answers t [] = []

@@ -8,19 +8,19 @@ use lib.Dec.{leb}
 use lib.Ieee.{Float}
 use borrow.Author.Tests.{leb-true}
 use Rattle.limits.specs.Limits.{maxViews, maxCameras, firstNeeds, secondNeeds}
-use Rattle.session_record.specs.declared.Session.{Session}
+use Rattle.session_record.specs.declared.Held.{Held}
 use Rattle.session.specs.declared.Reply.the-variants.{Solved}
 use Rattle.lists.proofs.Tests.{and-true}
 use Rattle.listing.specs.Listing.{poseFields, solvedText, replyText, listingBytes, sized, fits, written}
 
-module _ (session : Session) (first : List Float) (second : List ℕ) where
+module _ (held : Held) (first : List Float) (second : List ℕ) where
   pub record Bounded : Type 0 where
-    pub cameras-fit : session .cameras ≤ maxCameras
-    pub views-fit : session .views ≤ maxViews
-    pub first-holds : firstNeeds (session .cameras) (session .views) ≤ length first
-    pub second-holds : secondNeeds (session .cameras) ≤ length second
+    pub cameras-fit : held .cameras ≤ maxCameras
+    pub views-fit : held .views ≤ maxViews
+    pub first-holds : firstNeeds (held .cameras) (held .views) ≤ length first
+    pub second-holds : secondNeeds (held .cameras) ≤ length second
 
-  pub sized-bounded : sized session first second ≡ true → Bounded
+  pub sized-bounded : sized held first second ≡ true → Bounded
   unfolding sized
   sized-bounded e =
       let (e₃, fourth) = and-true _ _ e in
@@ -34,15 +34,15 @@ module _ (session : Session) (first : List Float) (second : List ℕ) where
       }
 
   module _ (room : ℕ) where
-    pub written-unsized : sized session first second ≡ false → written Solved session first second room ≡ []
+    pub written-unsized : sized held first second ≡ false → written Solved held first second room ≡ []
     unfolding written fits
     written-unsized e = rw e
 
-    pub written-no-room : sized session first second ≡ true → leb listingBytes room ≡ false → written Solved session first second room ≡ []
+    pub written-no-room : sized held first second ≡ true → leb listingBytes room ≡ false → written Solved held first second room ≡ []
     unfolding written fits
     written-no-room e f = rw (e, f)
 
-    pub written-solved : sized session first second ≡ true → leb listingBytes room ≡ true
-        → written Solved session first second room ≡ solvedText poseFields session first second
+    pub written-solved : sized held first second ≡ true → leb listingBytes room ≡ true
+        → written Solved held first second room ≡ solvedText poseFields held first second
     unfolding written fits replyText
     written-solved e f = rw (e, f)

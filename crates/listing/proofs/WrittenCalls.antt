@@ -9,6 +9,7 @@ use lib.ListN.{length}
 use lib.Dec.{leb}
 use borrow.Author.Tests.{le-leb}
 use Rattle.limits.specs.Limits.{maxViews, maxCameras, firstNeeds, secondNeeds}
+use Rattle.session_record.specs.Session.{heldOf}
 use Rattle.session.specs.Call.{State, call}
 use Rattle.session.specs.declared.Reply.{Reply}
 use Rattle.session.specs.declared.Reply.the-variants.{End, Accepted, Solved, Refused}
@@ -20,7 +21,7 @@ cond-same true x = refl
 cond-same false x = refl
 
 module _ (t : State) where
-  sized-of-holding : HoldsRig t → sized (t .session) (t .first) (t .second) ≡ true
+  sized-of-holding : HoldsRig t → sized (heldOf (t .session)) (t .first) (t .second) ≡ true
   unfolding sized
   sized-of-holding h =
       rw (
@@ -32,7 +33,7 @@ module _ (t : State) where
 
   -- A rig that is to be printed is there, so that the text is written wherever any listing has room.
   written-held : (reply : Reply) (room : ℕ) → (reply ≡ Solved → HoldsRig t)
-      → written reply (t .session) (t .first) (t .second) room ≡ cond (leb listingBytes room) (printedText reply t) []
+      → written reply (heldOf (t .session)) (t .first) (t .second) room ≡ cond (leb listingBytes room) (printedText reply t) []
   unfolding written fits replyText
   written-held End room h = sym (cond-same (leb listingBytes room) [])
   written-held Accepted room h = sym (cond-same (leb listingBytes room) [])
@@ -42,6 +43,6 @@ module _ (t : State) where
 module _ (t : State) (stream : List ℕ) (at : ℕ) where
   pub written-call : (room : ℕ)
       → let r = call t stream at in
-      written (r .reply) (r .after .session) (r .after .first) (r .after .second) room
+      written (r .reply) (heldOf (r .after .session)) (r .after .first) (r .after .second) room
       ≡ cond (leb listingBytes room) (printedBy r) []
   written-call room = written-held (call t stream at .after) (call t stream at .reply) room (call-solved t stream at)

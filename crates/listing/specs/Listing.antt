@@ -14,7 +14,8 @@ use Rattle.refusal.specs.declared.Refusal.{Refusal}
 use Rattle.limits.specs.Limits.{maxViews, maxCameras, poseFloats, firstNeeds, parentPlace, linksPlace, secondNeeds}
 use Rattle.lists.specs.Lists.{gather}
 use Rattle.session.specs.Call.{State, Result}
-use Rattle.session_record.specs.declared.Session.{Session}
+use Rattle.session_record.specs.Session.{heldOf}
+use Rattle.session_record.specs.declared.Held.{Held}
 use Rattle.session.specs.declared.Reply.{Reply}
 use Rattle.session.specs.declared.Reply.the-variants.{End, Accepted, Solved, Refused}
 use Rattle.listing.specs.Widths.{okBytes, cameraBytes, viewBytes}
@@ -103,23 +104,23 @@ module _ (fields : Pose → List (List ℕ)) (first : List Float) (cameras : ℕ
   viewLineAt v = viewLine fields (viewNumbers v) (poseAt first (poseFloats * (cameras + v)))
 
 -- "indexes are ascending"
-unfoldable pub solvedText : (Pose → List (List ℕ)) → Session → List Float → List ℕ → List ℕ
-solvedText fields session first second =
-    okLine (session .cameras) (session .views)
-    ++ (gather (session .cameras) (cameraLineAt fields first second) ++ gather (session .views) (viewLineAt fields first (session .cameras)))
+unfoldable pub solvedText : (Pose → List (List ℕ)) → Held → List Float → List ℕ → List ℕ
+solvedText fields held first second =
+    okLine (held .cameras) (held .views)
+    ++ (gather (held .cameras) (cameraLineAt fields first second) ++ gather (held .views) (viewLineAt fields first (held .cameras)))
 
 -- ---- a reply
 
 -- "an accepted command but Solve prints nothing"; nor does the end.
-unfoldable pub replyText : Reply → Session → List Float → List ℕ → List ℕ
-replyText End session first second = []
-replyText Accepted session first second = []
-replyText Solved session first second = solvedText poseFields session first second
-replyText (Refused r) session first second = refusalLine r
+unfoldable pub replyText : Reply → Held → List Float → List ℕ → List ℕ
+replyText End held first second = []
+replyText Accepted held first second = []
+replyText Solved held first second = solvedText poseFields held first second
+replyText (Refused r) held first second = refusalLine r
 
 -- What a reply prints, after which this stands in the record and in both answers.
 abbrev pub printedText : Reply → State → List ℕ
-printedText reply after = replyText reply (after .session) (after .first) (after .second)
+printedText reply after = replyText reply (heldOf (after .session)) (after .first) (after .second)
 
 abbrev pub printedBy : Result → List ℕ
 printedBy r = printedText (r .reply) (r .after)
@@ -131,20 +132,20 @@ abbrev pub listingBytes : ℕ
 listingBytes = okBytes + maxCameras * cameraBytes poseFloats + maxViews * viewBytes poseFloats
 
 -- The sizes are within the limits, and both answers hold such a rig.
-unfoldable pub sized : Session → List Float → List ℕ → Bool
-sized session first second =
-    leb (session .cameras) maxCameras
-    && leb (session .views) maxViews
-    && leb (firstNeeds (session .cameras) (session .views)) (length first)
-    && leb (secondNeeds (session .cameras)) (length second)
+unfoldable pub sized : Held → List Float → List ℕ → Bool
+sized held first second =
+    leb (held .cameras) maxCameras
+    && leb (held .views) maxViews
+    && leb (firstNeeds (held .cameras) (held .views)) (length first)
+    && leb (secondNeeds (held .cameras)) (length second)
 
 -- There is room for what a reply prints, and a rig that is to be printed is there.
-unfoldable pub fits : Reply → Session → List Float → List ℕ → ℕ → Bool
-fits End session first second room = true
-fits Accepted session first second room = true
-fits Solved session first second room = sized session first second && leb listingBytes room
-fits (Refused r) session first second room = leb listingBytes room
+unfoldable pub fits : Reply → Held → List Float → List ℕ → ℕ → Bool
+fits End held first second room = true
+fits Accepted held first second room = true
+fits Solved held first second room = sized held first second && leb listingBytes room
+fits (Refused r) held first second room = leb listingBytes room
 
 -- What is written for a reply into memory of so many bytes: its text, or nothing where that does not fit.
-unfoldable pub written : Reply → Session → List Float → List ℕ → ℕ → List ℕ
-written reply session first second room = cond (fits reply session first second room) (replyText reply session first second) []
+unfoldable pub written : Reply → Held → List Float → List ℕ → ℕ → List ℕ
+written reply held first second room = cond (fits reply held first second room) (replyText reply held first second) []

@@ -19,7 +19,7 @@ use limits::MAX_VIEWS;
 use limits::POSE_FLOATS;
 use refusal::Refusal;
 use session::Reply;
-use session_record::Session;
+use session_record::Held;
 
 // Memory of this length holds every listing: the ok line, 16 cameras and 64 views, each line as long as any.
 pub const LISTING_BYTES: usize = 10139;
@@ -27,31 +27,31 @@ pub const LISTING_BYTES: usize = 10139;
 // The text of a reply at the front of `out`, and its length; nothing where it does not fit. Memory behind the text is unchanged.
 pub fn write_reply(
     reply: Reply,
-    session: Session,
+    held: Held,
     transforms: &[f64],
     chains: &[u8],
     out: &mut [u8],
 ) -> usize
-    ensures { λ r. ⌜ Front (now (out .entry)) (written reply session (now (transforms .entry)) (now (chains .entry)) (length (now (out .entry)))) (now (out .exit)) r ⌝ }
+    ensures { λ r. ⌜ Front (now (out .entry)) (written reply held (now (transforms .entry)) (now (chains .entry)) (length (now (out .entry)))) (now (out .exit)) r ⌝ }
 {
     match reply {
         Reply::End => 0,
         Reply::Accepted => 0,
-        Reply::Solved => write_solved(session, transforms, chains, out),
+        Reply::Solved => write_solved(held, transforms, chains, out),
         Reply::Refused(refusal) => write_refusal(refusal, out),
     }
 }
 
-fn write_solved(session: Session, transforms: &[f64], chains: &[u8], out: &mut [u8]) -> usize
-    ensures { λ r. ⌜ Front (now (out .entry)) (written Solved session (now (transforms .entry)) (now (chains .entry)) (length (now (out .entry)))) (now (out .exit)) r ⌝ }
+fn write_solved(held: Held, transforms: &[f64], chains: &[u8], out: &mut [u8]) -> usize
+    ensures { λ r. ⌜ Front (now (out .entry)) (written Solved held (now (transforms .entry)) (now (chains .entry)) (length (now (out .entry)))) (now (out .exit)) r ⌝ }
 {
-    if !is_sized(session, transforms, chains) {
+    if !is_sized(held, transforms, chains) {
         return 0;
     }
     if out.len() < LISTING_BYTES {
         return 0;
     }
-    put_solved(out, session, transforms, chains)
+    put_solved(out, held, transforms, chains)
 }
 
 fn write_refusal(refusal: Refusal, out: &mut [u8]) -> usize
@@ -63,11 +63,11 @@ fn write_refusal(refusal: Refusal, out: &mut [u8]) -> usize
     put_refusal(out, 0, refusal)
 }
 
-fn is_sized(session: Session, transforms: &[f64], chains: &[u8]) -> bool
-    ensures { λ r. ⌜ r ≡ sized session (now (transforms .entry)) (now (chains .entry)) ⌝ }
+fn is_sized(held: Held, transforms: &[f64], chains: &[u8]) -> bool
+    ensures { λ r. ⌜ r ≡ sized held (now (transforms .entry)) (now (chains .entry)) ⌝ }
 {
-    let cameras = session.cameras as usize;
-    let views = session.views as usize;
+    let cameras = held.cameras as usize;
+    let views = held.views as usize;
     if cameras > MAX_CAMERAS {
         return false;
     }

@@ -18,7 +18,7 @@ use limits::CHAIN_BYTES;
 use limits::LINKS_PLACE;
 use limits::POSE_FLOATS;
 use refusal::Refusal;
-use session_record::Session;
+use session_record::Held;
 
 pub(crate) fn put_refusal(out: &mut [u8], at: usize, refusal: Refusal) -> usize
     requires { ⌜ at + refusalBytes ≤ length (now out) ⌝ }
@@ -104,18 +104,13 @@ fn put_views(out: &mut [u8], at: usize, cameras: u8, views: u8, transforms: &[f6
     next
 }
 
-pub(crate) fn put_solved(
-    out: &mut [u8],
-    session: Session,
-    transforms: &[f64],
-    chains: &[u8],
-) -> usize
-    requires { ⌜ (session .cameras ≤ maxCameras) × (session .views ≤ maxViews) × (listingBytes ≤ length (now out)) ⌝ }
-    requires { ⌜ (firstNeeds (session .cameras) (session .views) ≤ length (now transforms)) × (secondNeeds (session .cameras) ≤ length (now chains)) ⌝ }
-    ensures { λ r. ⌜ Put (now (out .entry)) 0 (solvedText poseFields session (now (transforms .entry)) (now (chains .entry))) (now (out .exit)) r ⌝ }
+pub(crate) fn put_solved(out: &mut [u8], held: Held, transforms: &[f64], chains: &[u8]) -> usize
+    requires { ⌜ (held .cameras ≤ maxCameras) × (held .views ≤ maxViews) × (listingBytes ≤ length (now out)) ⌝ }
+    requires { ⌜ (firstNeeds (held .cameras) (held .views) ≤ length (now transforms)) × (secondNeeds (held .cameras) ≤ length (now chains)) ⌝ }
+    ensures { λ r. ⌜ Put (now (out .entry)) 0 (solvedText poseFields held (now (transforms .entry)) (now (chains .entry))) (now (out .exit)) r ⌝ }
 {
-    let cameras = session.cameras;
-    let views = session.views;
+    let cameras = held.cameras;
+    let views = held.views;
     let cameras_at = put_ok(out, 0, cameras, views);
     let views_at = put_cameras(out, cameras_at, cameras, transforms, chains);
     put_views(out, views_at, cameras, views, transforms)

@@ -1,7 +1,12 @@
--- Tests over the numbers below a bound: how many pass, the lowest that does, and those that do as a sum of powers of two. Assumes nothing.
+-- Tests over the numbers below a bound: whether all pass, how many do, the lowest that does, and those that do as a sum of powers of two. Assumes nothing.
 use Prim.Native.Nat.{ℕ, zero, suc, _+_, _^_}
-use mathlib.Core.Bool.{Bool, cond}
+use mathlib.Core.Bool.{Bool, true, _&&_, cond}
 use mathlib.Core.Option.{Option, none, some}
+
+-- Whether all numbers below n pass the test.
+unfoldable pub allBelow : (ℕ → Bool) → ℕ → Bool
+allBelow test zero = true
+allBelow test (suc n) = allBelow test n && test n
 
 -- How many of the first `m` numbers pass the test.
 unfoldable pub count : (ℕ → Bool) → ℕ → ℕ

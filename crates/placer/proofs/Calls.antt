@@ -11,10 +11,11 @@ use borrow.Author.Tests.{lt-ltb, le-ltb}
 use Rattle.refusal.specs.declared.Refusal.the-variants.{TooLong, WrongLength}
 use Rattle.session.specs.Call.{Result, State, state, maxStream}
 use Rattle.session.proofs.KeptSessions.{call-keeps-session}
+use Rattle.record_words.specs.Words.{wordsOf, sessionIn, isRecord}
+use Rattle.record_words.proofs.Records.{isRecord-words, wordsOf-sessionIn}
 use Rattle.placer.specs.Code.{codeOf, codeOfReply}
-use Rattle.placer.specs.Step.{wordsOf, sessionIn, isRecord, notARecord, stepped, wordsAfter, Stepped}
+use Rattle.placer.specs.Step.{notARecord, stepped, wordsAfter, Stepped}
 use Rattle.placer.specs.Reading.{CallReply, NoRecordReply}
-use Rattle.placer.proofs.Records.{isRecord-words, wordsOf-sessionIn}
 use Rattle.placer.proofs.Steps.{stepped-not, stepped-call}
 
 module _ (words stream : List ℕ) (at : ℕ) (buffer first : List Float) (second : List ℕ) (r next : ℕ) (words′ : List ℕ) (buffer′ first′ : List Float)

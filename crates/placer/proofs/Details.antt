@@ -9,12 +9,11 @@ use mathlib.Core.Option.{some}
 use mathlib.Core.List.{List, [], _∷_}
 use lib.ListN.{length, getD}
 use lib.Pow.{pow-mono}
-use lib.Dec.{eqb, leb, ltb}
+use lib.Dec.{eqb, ltb}
 use lib.Ieee.{Float}
 use borrow.Author.Tests.{ltb-false}
 use Rattle.arithmetic.specs.declared.pose.Pose.{Pose}
-use Rattle.refusal.specs.Table.{refuseIf, refuseAt, firstOf}
-use Rattle.refusal.specs.declared.Refusal.{Refusal}
+use Rattle.refusal.specs.Table.{refuseIf, refuseAt}
 use Rattle.refusal.specs.declared.Refusal.the-variants.{InsufficientData, TooMany, WrongLength, CountDiffers, BadMark, NotFinite, Unreached, EmptyView}
 use Rattle.limits.specs.Limits.{maxViews, maxCameras, firstNeeds, secondNeeds}
 use Rattle.lists.specs.Finding.{lowest}

@@ -2,10 +2,11 @@
 -- anything was refused at all. Assumes nothing.
 use Prim.Native.Nat.{ℕ, _^_, _≤_, _<_}
 use native.Mathlib.Omega.{arith}
-use mathlib.Core.Path.{_≡_, refl, ap₂, _∙_}
+use mathlib.Core.Path.{_≡_, refl, ap, ap₂, _∙_}
 use mathlib.Core.Logic.{_↔_}
+use mathlib.Core.Bool.{Bool, cond}
 use mathlib.Core.Option.{Option, none, some}
-use borrow.Author.Tests.{ne-eqb}
+use borrow.Author.Tests.{ne-eqb, lt-ltb, le-ltb}
 use Rattle.refusal.specs.Table.{numberOf, detailOf}
 use Rattle.refusal.specs.declared.Refusal.{Refusal}
 use Rattle.refusal.specs.declared.Refusal.the-variants.{InsufficientData, TooMany, InvalidReference, CountDiffers, WrongLength, BadMark, NotFinite, Unreached, EmptyView, UnknownCommand, Truncated, OutsideRig, TooLong, NoSize, SizeAgain, HeldAlready, NotHeld}
@@ -13,8 +14,10 @@ use Rattle.extrinsics.specs.declared.Outcome.{Outcome}
 use Rattle.extrinsics.specs.declared.Outcome.the-variants as Came
 use Rattle.session.specs.declared.Reply.{Reply}
 use Rattle.session.specs.declared.Reply.the-variants as Replied
-use Rattle.placer.specs.Code.{codeOf, codeOfOutcome, codeOfRefusal, codeOfReply}
-use Rattle.placer.specs.Reading.{numberIn, detailIn, refusalsWith, withNumber, refusalIn, outcomeIn, replyIn}
+use Rattle.shared_query.specs.declared.Shared.{Shared}
+use Rattle.shared_query.specs.declared.Shared.the-variants as Asked
+use Rattle.placer.specs.Code.{codeOf, codeOfOutcome, codeOfRefusal, codeOfReply, codeOfShared}
+use Rattle.placer.specs.Reading.{numberIn, detailIn, refusalsWith, withNumber, refusalIn, outcomeIn, replyIn, sharedIn}
 
 -- ---- refusals
 
@@ -124,3 +127,16 @@ replyIn-codeOfReply (Replied.Refused q) small =
       ne-eqb (codeOf q) 2 (omega (arith, above)),
       refusalIn-codeOf q small,
     )
+
+-- ---- the query's answers
+
+abbrev pub SmallShared : Shared → Type 0
+SmallShared (Asked.Refused q) = detailOf q < 2 ^ 32
+SmallShared (Asked.Count n) = n < 2 ^ 32
+
+pub sharedIn-codeOfShared : (p : Shared) → SmallShared p → sharedIn (codeOfShared p) ≡ p
+unfolding sharedIn codeOfShared
+sharedIn-codeOfShared (Asked.Refused q) small =
+    ap (λ (b : Bool). cond b (Asked.Count (codeOf q)) (Asked.Refused (refusalIn (codeOf q)))) (le-ltb (codeOf q) (2 ^ 32) (omega (arith, codeOf-above q)))
+    ∙ ap Asked.Refused (refusalIn-codeOf q small)
+sharedIn-codeOfShared (Asked.Count n) small = rw (lt-ltb n (2 ^ 32) small)

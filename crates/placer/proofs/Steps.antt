@@ -9,10 +9,12 @@ use Rattle.session.specs.Call.{Result, state, stopped, call, Called}
 use Rattle.session_record.specs.declared.Session.{Session}
 use Rattle.session.specs.declared.Step.{Step}
 use Rattle.session.proofs.KeptSessions.{call-keeps-session}
+use Rattle.record_words.specs.Words.{wordsOf, sessionIn, isRecord}
+use Rattle.record_words.proofs.Records.{isRecord-words, wordsOf-sessionIn}
 use Rattle.placer.specs.Code.{codeOf, codeOfReply}
-use Rattle.placer.specs.Step.{wordsOf, sessionIn, isRecord, notARecord, stepped, wordsAfter, Stepped}
+use Rattle.placer.specs.Step.{notARecord, stepped, wordsAfter, Stepped}
 use Rattle.placer.specs.Inner.Records.{wordsKept}
-use Rattle.placer.proofs.Records.{isRecord-words, wordsOf-sessionIn, wordsKept-wordsOf}
+use Rattle.placer.proofs.Records.{wordsKept-wordsOf}
 
 module _ (words stream : List ℕ) (at : ℕ) (buffer first : List Float) (second : List ℕ) where
   pub stepped-not : isRecord words ≡ false

@@ -1,12 +1,12 @@
 -- What a caller reads in a reply, as include/placer.h has it: the number of a refusal in its upper 32 bits and the detail in its lower,
--- and so the outcome of the direct call, or what the session replies. Then what the replies of `placer_estimate` and `placer_step` are in
+-- and so the outcome of the direct call, what the session replies, or what the query answers. Then what the replies of `placer_estimate` and `placer_step` are in
 -- terms of the direct call and of the session's call. Rests on the table of refusals and on both calls.
 use Prim.Native.Nat.{ℕ, _*_, _/_, _%_, _^_, _≤_, _<_}
 use mathlib.Core.Path.{_≡_}
 use mathlib.Core.Bool.{cond}
 use mathlib.Core.List.{List, [], _∷_}
 use lib.ListN.{length}
-use lib.Dec.{eqb}
+use lib.Dec.{eqb, ltb}
 use lib.Ieee.{Float}
 use Rattle.refusal.specs.Table.{numberOf}
 use Rattle.refusal.specs.declared.Refusal.{Refusal}
@@ -17,8 +17,10 @@ use Rattle.extrinsics.specs.declared.Outcome.the-variants as Came
 use Rattle.session.specs.Call.{State, call, maxStream}
 use Rattle.session.specs.declared.Reply.{Reply}
 use Rattle.session.specs.declared.Reply.the-variants as Replied
+use Rattle.shared_query.specs.declared.Shared.{Shared}
+use Rattle.shared_query.specs.declared.Shared.the-variants as Asked
+use Rattle.record_words.specs.Words.{wordsOf}
 use Rattle.placer.specs.Code.{codeOfOutcome, codeOfReply}
-use Rattle.placer.specs.Step.{wordsOf}
 
 abbrev pub numberIn : ℕ → ℕ
 numberIn r = r / 2 ^ 32
@@ -65,6 +67,11 @@ outcomeIn r = cond (eqb r 0) Came.Solved (Came.Refused (refusalIn r))
 unfoldable pub replyIn : ℕ → Reply
 unfolding withNumber
 replyIn r = cond (eqb r 0) Replied.End (cond (eqb r 1) Replied.Accepted (cond (eqb r 2) Replied.Solved (Replied.Refused (refusalIn r))))
+
+-- What the query answered, by the reply of `placer_shared`.
+unfoldable pub sharedIn : ℕ → Shared
+unfolding withNumber
+sharedIn r = cond (ltb r (2 ^ 32)) (Asked.Count r) (Asked.Refused (refusalIn r))
 
 -- A reply of `placer_estimate` is the direct call's: some outcome of it, and both answers as that call leaves them. The reply is the
 -- outcome's number, and the outcome is read back from it.

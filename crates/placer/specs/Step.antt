@@ -1,51 +1,18 @@
--- One command of a session through the library: the session record as words, and what then holds. Rests on the calls of `session`.
-use Prim.Native.Nat.{ℕ, _+_}
+-- One command of a session through the library, its record in words, and what then holds. Rests on the calls of `session` and the words of `record_words`.
+use Prim.Native.Nat.{ℕ}
 use mathlib.Core.Path.{_≡_}
-use mathlib.Core.Bool.{Bool, _&&_, cond}
-use mathlib.Core.List.{List, [], _∷_, _++_}
-use lib.ListN.{length, getD, take}
-use lib.Dec.{eqb, ltb}
+use mathlib.Core.Bool.{cond}
+use mathlib.Core.List.{List}
+use lib.ListN.{length}
+use lib.Dec.{ltb}
 use lib.Ieee.{Float}
 use Rattle.refusal.specs.declared.Refusal.{Refusal}
 use Rattle.refusal.specs.declared.Refusal.the-variants.{TooLong, WrongLength}
-use Rattle.limits.specs.Limits.{maxCameras}
 use Rattle.session.specs.Call.{Result, state, stopped, call, maxStream}
-use Rattle.session_record.specs.declared.Session.{Session}
+use Rattle.record_words.specs.Words.{wordsOf, sessionIn, isRecord}
 use Rattle.placer.specs.Code.{codeOfReply}
 
--- ---- the places of a record's words: a mask for each camera, then the views, the cameras and the reference
-
-abbrev pub viewsWord : ℕ
-viewsWord = maxCameras
-
-abbrev pub camerasWord : ℕ
-camerasWord = maxCameras + 1
-
-abbrev pub referenceWord : ℕ
-referenceWord = maxCameras + 2
-
--- How many they are.
-abbrev pub recordWords : ℕ
-recordWords = maxCameras + 3
-
--- ---- the record written as words, and read from them
-
-abbrev pub wordsOf : Session → List ℕ
-wordsOf s = s .masks ++ (s .views ∷ s .cameras ∷ s .reference ∷ [])
-
-abbrev pub sessionIn : List ℕ → Session
-sessionIn words =
-    record { masks = take maxCameras words; views = getD words viewsWord 0; cameras = getD words camerasWord 0; reference = getD words referenceWord 0 }
-
--- As many words as a record has, the last three of them bytes.
-unfoldable pub isRecord : List ℕ → Bool
-isRecord words =
-    eqb (length words) recordWords
-    && (ltb (getD words viewsWord 0) 256 && ltb (getD words camerasWord 0) 256 && ltb (getD words referenceWord 0) 256)
-
--- ---- one command
-
--- Words that are no record are refused with 5, as a record that no accepted commands could leave; "13 comes before 5".
+-- Words that are no record are refused with 5, as a record that no accepted commands could leave; 13 "comes before 5".
 abbrev pub notARecord : ℕ → Refusal
 notARecord streamLength = cond (ltb maxStream streamLength) TooLong WrongLength
 

@@ -1,9 +1,10 @@
 // What an entry answers as one 64-bit number: number times 2^32 plus detail for a refusal, and below 2^32 for everything else.
 ghost use mathlib.Core.Path.{_≡_};
-ghost use Rattle.placer.specs.Code.{codeOf, codeOfOutcome, codeOfReply};
+ghost use Rattle.placer.specs.Code.{codeOf, codeOfOutcome, codeOfReply, codeOfShared};
 use extrinsics::Outcome;
 use refusal::Refusal;
 use session::Reply;
+use shared_query::Shared;
 
 // 2^32: details are below it.
 const DETAILS: u64 = 0x1_0000_0000;
@@ -33,5 +34,14 @@ pub fn reply_code(reply: Reply) -> u64
         Reply::Accepted => 1,
         Reply::Solved => 2,
         Reply::Refused(refusal) => refusal_code(refusal),
+    }
+}
+
+pub fn shared_code(shared: Shared) -> u64
+    ensures { λ r. ⌜ r ≡ codeOfShared shared ⌝ }
+{
+    match shared {
+        Shared::Refused(refusal) => refusal_code(refusal),
+        Shared::Count(count) => count as u64,
     }
 }

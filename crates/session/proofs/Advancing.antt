@@ -8,14 +8,15 @@ use lib.ListN.{length}
 use Rattle.refusal.specs.declared.Refusal.{Refusal}
 use Rattle.command.specs.Command.{Command, Parsed, complete, broken, unknown, parse}
 use Rattle.command.proofs.Decoding.{parse-complete}
+use Rattle.session_record.specs.Session.{heldOf}
 use Rattle.session.specs.Commands.{commandRefusal}
 use Rattle.session.specs.Call.{State, callRefusal, obeyed, read, call}
 use Rattle.session.proofs.Obeying.{obeyed-refused, obeyed-accepted, call-refused, call-read}
 
 obeyed-next : (t : State) (command : Command) (next : ℕ) → obeyed t command next .next ≡ next
-obeyed-next t command next = go (commandRefusal (t .session) (t .buffer) command) refl
+obeyed-next t command next = go (commandRefusal (heldOf (t .session)) (t .buffer) command) refl
   where
-    go : (o : Option Refusal) → commandRefusal (t .session) (t .buffer) command ≡ o → obeyed t command next .next ≡ next
+    go : (o : Option Refusal) → commandRefusal (heldOf (t .session)) (t .buffer) command ≡ o → obeyed t command next .next ≡ next
     go (some r) e = rw (obeyed-refused t command next r e) refl
     go none e = rw (obeyed-accepted t command next e) refl
 

@@ -10,13 +10,13 @@ use Rattle.refusal.specs.Table.{orElse, firstOf}
 use Rattle.refusal.specs.declared.Refusal.{Refusal}
 use Rattle.refusal.specs.declared.Refusal.the-variants.{NoSize, OutsideRig}
 use Rattle.inputs.proofs.Answering.{firstOf-append, orElse-none}
-use Rattle.session_record.specs.Session.{hasSize, namedCell, possible}
+use Rattle.session_record.specs.Session.{hasSize, namedCell, possibleHeld}
 use Rattle.session.specs.Cell.{cellChecks}
-use Rattle.session_record.specs.declared.Session.{Session}
+use Rattle.session_record.specs.declared.Held.{Held}
 use Rattle.session_record.proofs.Refusals.{test-passed}
 use Rattle.session_record.proofs.PossibleRecords.{CellInside, cell-inside}
 
-module _ (s : Session) (view camera : ℕ) where
+module _ (s : Held) (view camera : ℕ) where
   pub cell-refused : (later : List (Option Refusal)) (r : Refusal) → firstOf (cellChecks s view camera) ≡ some r
       → firstOf (cellChecks s view camera ++ later) ≡ some r
   unfolding orElse
@@ -33,7 +33,7 @@ module _ (s : Session) (view camera : ℕ) where
   cell-checked later e = orElse-none (firstOf (cellChecks s view camera)) (firstOf later) (sym (firstOf-append (cellChecks s view camera) later) ∙ e)
 
   -- The cell that they let pass is inside the sizes, and so small.
-  pub passed-inside : possible s ≡ true → firstOf (cellChecks s view camera) ≡ none → CellInside s view camera
+  pub passed-inside : possibleHeld s ≡ true → firstOf (cellChecks s view camera) ≡ none → CellInside s view camera
   unfolding firstOf
   passed-inside h e =
       let sized = test-passed (not (hasSize s)) NoSize _ e in

@@ -8,6 +8,7 @@ use mathlib.Core.List.{List}
 use lib.ListN.{length}
 use Rattle.refusal.specs.declared.Refusal.{Refusal}
 use Rattle.command.specs.Command.{Command, edit, solve, Parsed, complete, broken, unknown, parse}
+use Rattle.session_record.specs.Session.{heldOf}
 use Rattle.session.specs.Commands.{commandRefusal, sessionAfter}
 use Rattle.session.specs.Call.{State, Result, callRefusal, replyTo, stateAfter, obeyed, read, call}
 use Rattle.session.specs.declared.Reply.the-variants.{Accepted}
@@ -23,9 +24,9 @@ module _ (t : State) where
   kept-by solve h = refl
 
   obeyed-keeps : (command : Command) (next : ℕ) → KeptUnlessAccepted (obeyed t command next)
-  obeyed-keeps command next = go (commandRefusal (t .session) (t .buffer) command) refl
+  obeyed-keeps command next = go (commandRefusal (heldOf (t .session)) (t .buffer) command) refl
     where
-      go : (o : Option Refusal) → commandRefusal (t .session) (t .buffer) command ≡ o → KeptUnlessAccepted (obeyed t command next)
+      go : (o : Option Refusal) → commandRefusal (heldOf (t .session)) (t .buffer) command ≡ o → KeptUnlessAccepted (obeyed t command next)
       go (some r) e = rw (obeyed-refused t command next r e) (λ h. refl)
       go none e = rw (obeyed-accepted t command next e) (kept-by command)
 

@@ -1,6 +1,7 @@
 -- Laws of `session` that belong to no one function, a file a topic.
 pub mod SetBits
 pub mod ClearBits
+pub mod HeldViews
 pub mod Obeying
 pub mod SizeCommands
 pub mod CellCommands

@@ -12,20 +12,20 @@ use Rattle.refusal.specs.Table.{refuseIf, orElse, firstOf}
 use Rattle.refusal.specs.declared.Refusal.{Refusal}
 use Rattle.refusal.specs.declared.Refusal.the-variants.{HeldAlready, NotFinite}
 use Rattle.lists.specs.Masks.{inMask}
-use Rattle.session_record.specs.Session.{namedCell, possible}
+use Rattle.session_record.specs.Session.{namedCell, possibleHeld}
 use Rattle.session.specs.Cell.{cellChecks}
 use Rattle.session.specs.Pose.{poseCommandRefusal}
-use Rattle.session_record.specs.declared.Session.{Session}
+use Rattle.session_record.specs.declared.Held.{Held}
 use Rattle.session_record.proofs.Refusals.{test-passed}
 use Rattle.session_record.proofs.PossibleRecords.{CellInside}
 use Rattle.session.proofs.CellCommands.{cell-refused, cell-passed, cell-checked, passed-inside}
 
-pub record PoseAccepted (s : Session) (view camera : ℕ) (p : Pose) : Type 0 where
+pub record PoseAccepted (s : Held) (view camera : ℕ) (p : Pose) : Type 0 where
   pub cell : CellInside s view camera
   pub not-held : inMask (getD (s .masks) camera 0) view ≡ false
   pub all-finite : finitePose p ≡ true
 
-module _ (s : Session) (view camera : ℕ) (p : Pose) where
+module _ (s : Held) (view camera : ℕ) (p : Pose) where
   -- The checks after 21 and 12.
   abbrev own : Bool → Bool → List (Option Refusal)
   own held finite =
@@ -51,7 +51,7 @@ module _ (s : Session) (view camera : ℕ) (p : Pose) where
     unfolding poseCommandRefusal refuseIf orElse firstOf
     pose-passes e f = cell-passed s view camera (own held (finitePose p)) passed ∙ ap₂ (λ (b x : Bool). firstOf (own b x)) e f
 
-  pub pose-accepted : possible s ≡ true → poseCommandRefusal s view camera p ≡ none → PoseAccepted s view camera p
+  pub pose-accepted : possibleHeld s ≡ true → poseCommandRefusal s view camera p ≡ none → PoseAccepted s view camera p
   unfolding poseCommandRefusal firstOf
   pose-accepted h e =
       let (checked, rest) = cell-checked s view camera (own held (finitePose p)) e in

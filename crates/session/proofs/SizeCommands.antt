@@ -8,14 +8,14 @@ use Rattle.refusal.specs.declared.Refusal.{Refusal}
 use Rattle.refusal.specs.declared.Refusal.the-variants.{SizeAgain}
 use Rattle.inputs.specs.Inputs.{sizeRefusal}
 use Rattle.session.specs.Size.{sizeCommandRefusal}
-use Rattle.session_record.specs.declared.Session.{Session}
+use Rattle.session_record.specs.declared.Held.{Held}
 
 pub orElse-none : (o : Option Refusal) → orElse o none ≡ o
 unfolding orElse
 orElse-none none = refl
 orElse-none (some r) = refl
 
-module _ (s : Session) (views cameras reference : ℕ) where
+module _ (s : Held) (views cameras reference : ℕ) where
   pub size-again : (s .views ≡ 0 → ⊥) → sizeCommandRefusal s views cameras reference ≡ some SizeAgain
   unfolding sizeCommandRefusal refuseIf orElse firstOf
   size-again h = simp (ne-eqb (s .views) 0 h)

@@ -16,20 +16,20 @@ use Rattle.placing.specs.Inner.Fitting.{Fitting}
 use Rattle.extrinsics.specs.Outcome.{gridRefusal, outcomeOf, answered, Answers}
 use Rattle.extrinsics.specs.declared.Outcome.{Outcome}
 use Rattle.command.specs.Command.{solve}
-use Rattle.session_record.specs.Session.{bufferLength, rigOf, sessionGrid, possible}
+use Rattle.session_record.specs.Session.{sessionOf, bufferLength, rigOf, sessionGrid, possibleHeld}
 use Rattle.session.specs.Commands.{commandRefusal, sessionAfter, bufferAfter}
 use Rattle.session.specs.Call.{state, result, replyTo, firstAfter, secondAfter, stateAfter, obeyed}
-use Rattle.session_record.specs.declared.Session.{Session}
+use Rattle.session_record.specs.declared.Held.{Held}
 use Rattle.session.specs.declared.Reply.the-variants.{Solved, Refused}
 use Rattle.session.proofs.Obeying.{obeyed-refused, obeyed-accepted}
 use Rattle.session_record.proofs.PossibleRecords.{possible-within, possible-mask}
 use Rattle.session.proofs.SizeCommands.{orElse-none}
 
-pub solve-without-size : (s : Session) (buffer : List Float) → s .views ≡ 0 → commandRefusal s buffer solve ≡ some NoSize
+pub solve-without-size : (s : Held) (buffer : List Float) → s .views ≡ 0 → commandRefusal s buffer solve ≡ some NoSize
 unfolding commandRefusal refuseIf orElse firstOf
 solve-without-size s buffer h = simp (eq-eqb (s .views) 0 h)
 
-pub session-fits : (s : Session) (buffer : List Float) → possible s ≡ true → (s .views ≡ 0 → ⊥) → length buffer ≡ bufferLength → Fitting (rigOf s) buffer
+pub session-fits : (s : Held) (buffer : List Float) → possibleHeld s ≡ true → (s .views ≡ 0 → ⊥) → length buffer ≡ bufferLength → Fitting (rigOf s) buffer
 session-fits s buffer h sized e =
     let within = possible-within s h sized in
     record {
@@ -42,7 +42,7 @@ session-fits s buffer h sized e =
       masks-fit = possible-mask s h sized;
     }
 
-module _ (s : Session) (buffer first first′ : List Float) (second second′ : List ℕ) (o : Outcome) (next : ℕ) (sized : s .views ≡ 0 → ⊥)
+module _ (s : Held) (shared : List ℕ) (buffer first first′ : List Float) (second second′ : List ℕ) (o : Outcome) (next : ℕ) (sized : s .views ≡ 0 → ⊥)
     (answers : Answers (gridRefusal (sessionGrid s buffer)) (sessionGrid s buffer) first second o first′ second′) where
   solve-refusal : commandRefusal s buffer solve ≡ gridRefusal (sessionGrid s buffer)
   unfolding commandRefusal refuseIf firstOf
@@ -60,16 +60,16 @@ module _ (s : Session) (buffer first first′ : List Float) (second second′ : 
 
   -- A refusal leaves both answers.
   pub obeyed-solve-refused : (r : Refusal) → o ≡ Outcome.Refused r
-      → result (Refused r) (state s buffer first′ second′) next ≡ obeyed (state s buffer first second) solve next
+      → result (Refused r) (state (sessionOf s shared) buffer first′ second′) next ≡ obeyed (state (sessionOf s shared) buffer first second) solve next
   unfolding answered
   obeyed-solve-refused r e =
       let refused : gridRefusal (sessionGrid s buffer) ≡ some r = outcome-refused (gridRefusal (sessionGrid s buffer)) r (sym (answers .outcome) ∙ e) in
-      ap₂ (λ (f : List Float) (g : List ℕ). result (Refused r) (state s buffer f g) next) (rw refused at (answers .first-answer)) (rw refused at (answers .second-answer))
-      ∙ sym (obeyed-refused (state s buffer first second) solve next r (solve-refusal ∙ refused))
+      ap₂ (λ (f : List Float) (g : List ℕ). result (Refused r) (state (sessionOf s shared) buffer f g) next) (rw refused at (answers .first-answer)) (rw refused at (answers .second-answer))
+      ∙ sym (obeyed-refused (state (sessionOf s shared) buffer first second) solve next r (solve-refusal ∙ refused))
 
-  pub obeyed-solve-solved : o ≡ Outcome.Solved → result Solved (state s buffer first′ second′) next ≡ obeyed (state s buffer first second) solve next
+  pub obeyed-solve-solved : o ≡ Outcome.Solved → result Solved (state (sessionOf s shared) buffer first′ second′) next ≡ obeyed (state (sessionOf s shared) buffer first second) solve next
   unfolding replyTo stateAfter sessionAfter bufferAfter firstAfter secondAfter
   obeyed-solve-solved e =
       let solved : gridRefusal (sessionGrid s buffer) ≡ none = outcome-solved (gridRefusal (sessionGrid s buffer)) (sym (answers .outcome) ∙ e) in
-      ap₂ (λ (f : List Float) (g : List ℕ). result Solved (state s buffer f g) next) (rw solved at (answers .first-answer)) (rw solved at (answers .second-answer))
-      ∙ sym (obeyed-accepted (state s buffer first second) solve next (solve-refusal ∙ solved))
+      ap₂ (λ (f : List Float) (g : List ℕ). result Solved (state (sessionOf s shared) buffer f g) next) (rw solved at (answers .first-answer)) (rw solved at (answers .second-answer))
+      ∙ sym (obeyed-accepted (state (sessionOf s shared) buffer first second) solve next (solve-refusal ∙ solved))

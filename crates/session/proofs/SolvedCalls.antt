@@ -13,14 +13,14 @@ use Rattle.limits.specs.Limits.{maxViews, maxCameras}
 use Rattle.placing.specs.Estimate.{transforms, chains}
 use Rattle.extrinsics.specs.Outcome.{answered}
 use Rattle.command.specs.Command.{Command, edit, solve, Parsed, complete, broken, unknown, parse}
-use Rattle.session_record.specs.Session.{sessionGrid}
+use Rattle.session_record.specs.Session.{heldOf, sessionGrid}
 use Rattle.session.specs.Commands.{commandRefusal, sessionAfter}
 use Rattle.session.specs.Call.{firstLength, secondLength, State, Result, callRefusal, replyTo, firstAfter, secondAfter, stateAfter, obeyed, read, call}
 use Rattle.session.specs.declared.Reply.{Reply}
 use Rattle.session.specs.declared.Reply.the-variants.{End, Accepted, Solved, Refused}
 use Rattle.session.proofs.Obeying.{obeyed-refused, obeyed-accepted, call-refused, call-end, call-read}
 use Rattle.session.proofs.PassedCalls.{Ready, call-passed}
-use Rattle.session_record.proofs.PossibleRecords.{possible-within}
+use Rattle.session_record.proofs.PossibleRecords.{possible-within, possible-held}
 use Rattle.session.proofs.SolveCommands.{solve-without-size}
 
 pub record HoldsRig (t : State) : Type 0 where
@@ -45,26 +45,26 @@ abbrev HeldIfSolved : Result → Type 0
 HeldIfSolved r = IfSolved (r .reply) (HoldsRig (r .after))
 
 module _ (t : State) (stream : List ℕ) (at : ℕ) (ready : Ready t stream at) where
-  some-views : commandRefusal (t .session) (t .buffer) solve ≡ none → t .session .views ≡ 0 → ⊥
-  some-views e h = Option·none-ne-some NoSize (sym e ∙ solve-without-size (t .session) (t .buffer) h)
+  some-views : commandRefusal (heldOf (t .session)) (t .buffer) solve ≡ none → t .session .views ≡ 0 → ⊥
+  some-views e h = Option·none-ne-some NoSize (sym e ∙ solve-without-size (heldOf (t .session)) (t .buffer) h)
 
-  accepted-held : (command : Command) → commandRefusal (t .session) (t .buffer) command ≡ none
+  accepted-held : (command : Command) → commandRefusal (heldOf (t .session)) (t .buffer) command ≡ none
       → IfSolved (replyTo command) (HoldsRig (stateAfter t command))
   unfolding replyTo stateAfter sessionAfter firstAfter secondAfter
   accepted-held (edit change) e = tt
   accepted-held solve e =
-      let within = possible-within (t .session) (ready .record-possible) (some-views e) in
+      let within = possible-within (heldOf (t .session)) (possible-held (t .session) (ready .record-possible)) (some-views e) in
       record {
         views-fit = within .views-fit;
         cameras-fit = within .cameras-fit;
-        first-fits = answered-covers firstLength (transforms (sessionGrid (t .session) (t .buffer))) (t .first) (ready .first-fits);
-        second-fits = answered-covers secondLength (chains (sessionGrid (t .session) (t .buffer))) (t .second) (ready .second-fits);
+        first-fits = answered-covers firstLength (transforms (sessionGrid (heldOf (t .session)) (t .buffer))) (t .first) (ready .first-fits);
+        second-fits = answered-covers secondLength (chains (sessionGrid (heldOf (t .session)) (t .buffer))) (t .second) (ready .second-fits);
       }
 
   obeyed-held : (command : Command) (next : ℕ) → HeldIfSolved (obeyed t command next)
-  obeyed-held command next = go (commandRefusal (t .session) (t .buffer) command) refl
+  obeyed-held command next = go (commandRefusal (heldOf (t .session)) (t .buffer) command) refl
     where
-      go : (o : Option Refusal) → commandRefusal (t .session) (t .buffer) command ≡ o → HeldIfSolved (obeyed t command next)
+      go : (o : Option Refusal) → commandRefusal (heldOf (t .session)) (t .buffer) command ≡ o → HeldIfSolved (obeyed t command next)
       go (some r) e = rw (obeyed-refused t command next r e) tt
       go none e = rw (obeyed-accepted t command next e) (accepted-held command e)
 

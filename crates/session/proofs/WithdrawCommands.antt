@@ -10,19 +10,19 @@ use Rattle.refusal.specs.Table.{refuseIf, orElse, firstOf}
 use Rattle.refusal.specs.declared.Refusal.{Refusal}
 use Rattle.refusal.specs.declared.Refusal.the-variants.{NotHeld}
 use Rattle.lists.specs.Masks.{inMask}
-use Rattle.session_record.specs.Session.{namedCell, possible}
+use Rattle.session_record.specs.Session.{namedCell, possibleHeld}
 use Rattle.session.specs.Cell.{cellChecks}
 use Rattle.session.specs.Withdraw.{withdrawCommandRefusal}
-use Rattle.session_record.specs.declared.Session.{Session}
+use Rattle.session_record.specs.declared.Held.{Held}
 use Rattle.session_record.proofs.Refusals.{test-passed}
 use Rattle.session_record.proofs.PossibleRecords.{CellInside}
 use Rattle.session.proofs.CellCommands.{cell-refused, cell-passed, cell-checked, passed-inside}
 
-pub record WithdrawAccepted (s : Session) (view camera : ℕ) : Type 0 where
+pub record WithdrawAccepted (s : Held) (view camera : ℕ) : Type 0 where
   pub cell : CellInside s view camera
   pub held : inMask (getD (s .masks) camera 0) view ≡ true
 
-module _ (s : Session) (view camera : ℕ) where
+module _ (s : Held) (view camera : ℕ) where
   -- The check after 21 and 12.
   abbrev own : Bool → List (Option Refusal)
   own held = refuseIf (not held) (NotHeld (namedCell view camera)) ∷ []
@@ -40,7 +40,7 @@ module _ (s : Session) (view camera : ℕ) where
     unfolding withdrawCommandRefusal refuseIf orElse firstOf
     withdraw-passes held = cell-passed s view camera (own (inMask (getD (s .masks) camera 0) view)) passed ∙ ap (λ (b : Bool). firstOf (own b)) held
 
-  pub withdraw-accepted : possible s ≡ true → withdrawCommandRefusal s view camera ≡ none → WithdrawAccepted s view camera
+  pub withdraw-accepted : possibleHeld s ≡ true → withdrawCommandRefusal s view camera ≡ none → WithdrawAccepted s view camera
   unfolding withdrawCommandRefusal firstOf
   withdraw-accepted h e =
       let (checked, rest) = cell-checked s view camera (own (inMask (getD (s .masks) camera 0) view)) e in

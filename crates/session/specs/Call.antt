@@ -1,4 +1,4 @@
--- One call of the library, by document 01: the checks before all else, the command at the offset, the reply, and everything that then stands in the record, the buffer and both answers.
+-- One call of the library, by documents 01 and 02: the checks before all else, the command at the offset, the reply, and everything that then stands in the record, the buffer and both answers.
 -- Rests on the commands of `Command` and what they do in `Commands`.
 use Prim.Native.Nat.{ℕ, _+_}
 use mathlib.Core.Path.{_≡_}
@@ -13,7 +13,7 @@ use Rattle.refusal.specs.declared.Refusal.{Refusal}
 use Rattle.refusal.specs.declared.Refusal.the-variants.{WrongLength, UnknownCommand, Truncated, TooLong}
 use Rattle.limits.specs.Limits.{maxViews, maxCameras, firstNeeds, secondNeeds}
 use Rattle.command.specs.Command.{Command, edit, solve, Parsed, complete, broken, unknown, parse}
-use Rattle.session_record.specs.Session.{bufferLength, possible}
+use Rattle.session_record.specs.Session.{heldOf, bufferLength, possible}
 use Rattle.session.specs.Solve.{firstAfterSolve, secondAfterSolve}
 use Rattle.session.specs.Commands.{commandRefusal, sessionAfter, bufferAfter}
 use Rattle.session_record.specs.declared.Session.{Session}
@@ -52,7 +52,7 @@ abbrev pub result : Reply → State → ℕ → Result
 result r t n = record { reply = r; after = t; next = n }
 
 -- 5: "an answer is too short, the session buffer's length is wrong, or a session record handed in has sizes, a reference or mask bits
--- that no accepted commands could leave".
+-- that no accepted commands could leave", and "A session record handed in with a false entry is 5".
 abbrev pub unusable : State → Bool
 unusable t =
     not (eqb (length (t .buffer)) bufferLength)
@@ -84,12 +84,12 @@ replyTo solve = Solved
 unfoldable pub firstAfter : State → Command → List Float
 unfolding firstAfterSolve
 firstAfter t (edit e) = t .first
-firstAfter t solve = firstAfterSolve (t .session) (t .buffer) (t .first)
+firstAfter t solve = firstAfterSolve (heldOf (t .session)) (t .buffer) (t .first)
 
 unfoldable pub secondAfter : State → Command → List ℕ
 unfolding secondAfterSolve
 secondAfter t (edit e) = t .second
-secondAfter t solve = secondAfterSolve (t .session) (t .buffer) (t .second)
+secondAfter t solve = secondAfterSolve (heldOf (t .session)) (t .buffer) (t .second)
 
 unfoldable pub stateAfter : State → Command → State
 unfolding sessionAfter bufferAfter firstAfter secondAfter
@@ -99,7 +99,7 @@ stateAfter t command = state (sessionAfter (t .session) command) (bufferAfter (t
 unfoldable pub obeyed : State → Command → ℕ → Result
 unfolding commandRefusal stateAfter replyTo
 obeyed t command next =
-    elim (commandRefusal (t .session) (t .buffer) command) [ some r ↦ result (Refused r) t next | none ↦ result (replyTo command) (stateAfter t command) next ]
+    elim (commandRefusal (heldOf (t .session)) (t .buffer) command) [ some r ↦ result (Refused r) t next | none ↦ result (replyTo command) (stateAfter t command) next ]
 
 -- ---- one call
 

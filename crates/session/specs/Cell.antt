@@ -8,11 +8,11 @@ use Rattle.refusal.specs.Table.{refuseIf}
 use Rattle.refusal.specs.declared.Refusal.{Refusal}
 use Rattle.refusal.specs.declared.Refusal.the-variants.{NoSize, OutsideRig}
 use Rattle.session_record.specs.Session.{hasSize, namedCell}
-use Rattle.session_record.specs.declared.Session.{Session}
+use Rattle.session_record.specs.declared.Held.{Held}
 
 -- 21: "before an accepted Size". 12: "names a view or camera outside the sizes; detail is view × 256 + camera".
-abbrev pub cellChecks : Session → ℕ → ℕ → List (Option Refusal)
-cellChecks s view camera =
-    refuseIf (not (hasSize s)) NoSize
-    ∷ refuseIf (leb (s .views) view || leb (s .cameras) camera) (OutsideRig (namedCell view camera))
+abbrev pub cellChecks : Held → ℕ → ℕ → List (Option Refusal)
+cellChecks h view camera =
+    refuseIf (not (hasSize h)) NoSize
+    ∷ refuseIf (leb (h .views) view || leb (h .cameras) camera) (OutsideRig (namedCell view camera))
     ∷ []

@@ -6,26 +6,27 @@ use mathlib.Core.List.{List}
 use lib.Ieee.{Float}
 use Rattle.refusal.specs.declared.Refusal.{Refusal}
 use Rattle.command.specs.Command.{Edit, size, place, withdraw, Command, edit, solve}
-use Rattle.session_record.specs.Session.{fresh}
-use Rattle.session.specs.Size.{sizeCommandRefusal, sessionAfterSize}
-use Rattle.session.specs.Pose.{poseCommandRefusal, sessionAfterPose, bufferAfterPose}
-use Rattle.session.specs.Withdraw.{withdrawCommandRefusal, sessionAfterWithdraw}
+use Rattle.session_record.specs.Session.{fresh, heldOf, summed}
+use Rattle.session.specs.Size.{sizeCommandRefusal, heldAfterSize}
+use Rattle.session.specs.Pose.{poseCommandRefusal, heldAfterPose, bufferAfterPose}
+use Rattle.session.specs.Withdraw.{withdrawCommandRefusal, heldAfterWithdraw}
 use Rattle.session.specs.Solve.{solveCommandRefusal}
 use Rattle.session_record.specs.declared.Session.{Session}
+use Rattle.session_record.specs.declared.Held.{Held}
 
 -- ---- the edits: none of them looks at the buffer, and an accepted one changes record and buffer alone
 
-unfoldable pub editRefusal : Session → Edit → Option Refusal
+unfoldable pub editRefusal : Held → Edit → Option Refusal
 unfolding sizeCommandRefusal poseCommandRefusal withdrawCommandRefusal
-editRefusal s (size views cameras reference) = sizeCommandRefusal s views cameras reference
-editRefusal s (place view camera p) = poseCommandRefusal s view camera p
-editRefusal s (withdraw view camera) = withdrawCommandRefusal s view camera
+editRefusal h (size views cameras reference) = sizeCommandRefusal h views cameras reference
+editRefusal h (place view camera p) = poseCommandRefusal h view camera p
+editRefusal h (withdraw view camera) = withdrawCommandRefusal h view camera
 
-unfoldable pub editSession : Session → Edit → Session
-unfolding sessionAfterSize sessionAfterPose sessionAfterWithdraw
-editSession s (size views cameras reference) = sessionAfterSize s views cameras reference
-editSession s (place view camera p) = sessionAfterPose s view camera
-editSession s (withdraw view camera) = sessionAfterWithdraw s view camera
+unfoldable pub editHeld : Held → Edit → Held
+unfolding heldAfterSize heldAfterPose heldAfterWithdraw
+editHeld h (size views cameras reference) = heldAfterSize h views cameras reference
+editHeld h (place view camera p) = heldAfterPose h view camera
+editHeld h (withdraw view camera) = heldAfterWithdraw h view camera
 
 unfoldable pub editBuffer : List Float → Edit → List Float
 unfolding bufferAfterPose
@@ -33,12 +34,17 @@ editBuffer buffer (size views cameras reference) = buffer
 editBuffer buffer (place view camera p) = bufferAfterPose buffer view camera p
 editBuffer buffer (withdraw view camera) = buffer
 
--- ---- every command: Solve changes neither record nor buffer
+-- ---- every command: Solve changes neither record nor buffer, and no command's refusal looks at the summary
 
-unfoldable pub commandRefusal : Session → List Float → Command → Option Refusal
+unfoldable pub commandRefusal : Held → List Float → Command → Option Refusal
 unfolding editRefusal solveCommandRefusal
-commandRefusal s buffer (edit e) = editRefusal s e
-commandRefusal s buffer solve = solveCommandRefusal s buffer
+commandRefusal h buffer (edit e) = editRefusal h e
+commandRefusal h buffer solve = solveCommandRefusal h buffer
+
+-- "Every accepted command keeps each entry equal to the count over the held poses."
+unfoldable pub editSession : Session → Edit → Session
+unfolding editHeld
+editSession s e = summed (editHeld (heldOf s) e)
 
 unfoldable pub sessionAfter : Session → Command → Session
 unfolding editSession
@@ -55,4 +61,4 @@ bufferAfter buffer solve = buffer
 -- A fresh session, and what an accepted command leaves of such a record, whatever the buffer then held.
 pub data Left : Session → Type 0 where
   left-fresh : Left fresh
-  left-after : {s : Session} (buffer : List Float) (command : Command) → Left s → commandRefusal s buffer command ≡ none → Left (sessionAfter s command)
+  left-after : {s : Session} (buffer : List Float) (command : Command) → Left s → commandRefusal (heldOf s) buffer command ≡ none → Left (sessionAfter s command)

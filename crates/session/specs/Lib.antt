@@ -1,4 +1,4 @@
--- The definitions that the contracts of `session` cite: the record, a file for each command, all of them, one call, and what its functions promise each
+-- The definitions that the contracts of `session` cite: a file for each command, all of them, one call, and what its functions promise each
 -- other. Definitions only; their laws are in proofs/, and what a whole stream means is in the crate `claims_streams`.
 pub mod Cell
 pub mod Size

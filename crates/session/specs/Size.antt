@@ -7,12 +7,12 @@ use Rattle.refusal.specs.declared.Refusal.{Refusal}
 use Rattle.refusal.specs.declared.Refusal.the-variants.{SizeAgain}
 use Rattle.inputs.specs.Inputs.{sizeRefusal}
 use Rattle.session_record.specs.Session.{hasSize, withSizes}
-use Rattle.session_record.specs.declared.Session.{Session}
+use Rattle.session_record.specs.declared.Held.{Held}
 
 -- 22: "Size after an accepted Size". "After that, Size checks views and cameras as above, then 3".
-unfoldable pub sizeCommandRefusal : Session → ℕ → ℕ → ℕ → Option Refusal
+unfoldable pub sizeCommandRefusal : Held → ℕ → ℕ → ℕ → Option Refusal
 unfolding refuseIf firstOf sizeRefusal
-sizeCommandRefusal s views cameras reference = firstOf (refuseIf (hasSize s) SizeAgain ∷ sizeRefusal views cameras reference ∷ [])
+sizeCommandRefusal h views cameras reference = firstOf (refuseIf (hasSize h) SizeAgain ∷ sizeRefusal views cameras reference ∷ [])
 
-unfoldable pub sessionAfterSize : Session → ℕ → ℕ → ℕ → Session
-sessionAfterSize s views cameras reference = withSizes s views cameras reference
+unfoldable pub heldAfterSize : Held → ℕ → ℕ → ℕ → Held
+heldAfterSize h views cameras reference = withSizes h views cameras reference

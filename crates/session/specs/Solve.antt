@@ -12,17 +12,17 @@ use Rattle.placing.specs.Estimate.{transforms, chains}
 use Rattle.extrinsics.specs.Outcome.{answered, gridRefusal}
 use Rattle.placing.specs.Rig.{rigGrid}
 use Rattle.session_record.specs.Session.{hasSize, sessionGrid}
-use Rattle.session_record.specs.declared.Session.{Session}
+use Rattle.session_record.specs.declared.Held.{Held}
 
 -- 21: "Pose or Solve before an accepted Size". "Solve checks 7, 8, 9."
-unfoldable pub solveCommandRefusal : Session → List Float → Option Refusal
+unfoldable pub solveCommandRefusal : Held → List Float → Option Refusal
 unfolding refuseIf firstOf gridRefusal rigGrid
-solveCommandRefusal s buffer = firstOf (refuseIf (not (hasSize s)) NoSize ∷ gridRefusal (sessionGrid s buffer) ∷ [])
+solveCommandRefusal h buffer = firstOf (refuseIf (not (hasSize h)) NoSize ∷ gridRefusal (sessionGrid h buffer) ∷ [])
 
-unfoldable pub firstAfterSolve : Session → List Float → List Float → List Float
+unfoldable pub firstAfterSolve : Held → List Float → List Float → List Float
 unfolding answered transforms
-firstAfterSolve s buffer first = answered none (transforms (sessionGrid s buffer)) first
+firstAfterSolve h buffer first = answered none (transforms (sessionGrid h buffer)) first
 
-unfoldable pub secondAfterSolve : Session → List Float → List ℕ → List ℕ
+unfoldable pub secondAfterSolve : Held → List Float → List ℕ → List ℕ
 unfolding answered chains
-secondAfterSolve s buffer second = answered none (chains (sessionGrid s buffer)) second
+secondAfterSolve h buffer second = answered none (chains (sessionGrid h buffer)) second

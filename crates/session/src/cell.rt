@@ -9,7 +9,7 @@ ghost use Rattle.session_record.specs.Session.{namedCell};
 ghost use Rattle.session.specs.Cell.{cellChecks};
 use inputs::Checked;
 use refusal::Refusal;
-use session_record::Session;
+use session_record::Held;
 
 // The cell that the details of 12, 23 and 24 name.
 pub fn named_cell(view: u8, camera: u8) -> u32
@@ -26,13 +26,13 @@ pub fn is_held(mask: u64, view: u8) -> bool
 }
 
 // 21, then 12.
-pub fn check_cell(session: Session, view: u8, camera: u8) -> Checked
-    ensures { λ r. ⌜ r ≡ checkedOf (firstOf (cellChecks session view camera)) ⌝ }
+pub fn check_cell(held: Held, view: u8, camera: u8) -> Checked
+    ensures { λ r. ⌜ r ≡ checkedOf (firstOf (cellChecks held view camera)) ⌝ }
 {
-    if session.views == 0 {
+    if held.views == 0 {
         return Checked::Refused(Refusal::NoSize);
     }
-    if (session.views <= view) | (session.cameras <= camera) {
+    if (held.views <= view) | (held.cameras <= camera) {
         return Checked::Refused(Refusal::OutsideRig(named_cell(view, camera)));
     }
     Checked::Passed

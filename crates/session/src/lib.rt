@@ -12,7 +12,6 @@ mod solve;
 mod withdraw;
 
 use crate::commands::obey_command;
-use crate::replies::refuse;
 use inputs::Checked;
 use limits::CHAIN_BYTES;
 use limits::MAX_CAMERAS;
@@ -20,8 +19,11 @@ use limits::MAX_VIEWS;
 use limits::POSE_FLOATS;
 use refusal::Refusal;
 use session_record::BUFFER_FLOATS;
+use session_record::Held;
 use session_record::Session;
 use session_record::check::is_possible;
+use session_record::held_of;
+use session_record::session_of;
 
 // The most bytes of a stream.
 pub const MAX_STREAM: usize = 65536;
@@ -45,6 +47,13 @@ pub enum Reply {
 // The reply, the session after it, and the offset of the next command.
 pub struct Step {
     pub session: Session,
+    pub reply: Reply,
+    pub next: usize,
+}
+
+// The same of a session without its summary, which stands apart from it: what the commands hand on.
+pub struct Turn {
+    pub held: Held,
     pub reply: Reply,
     pub next: usize,
 }
@@ -90,7 +99,11 @@ pub fn obey(
 {
     let end = stream.len();
     if let Checked::Refused(refusal) = check_call(session, stream, at, buffer, transforms, chains) {
-        return refuse(session, refusal, end);
+        return Step {
+            session: session,
+            reply: Reply::Refused(refusal),
+            next: end,
+        };
     }
     if at == end {
         return Step {
@@ -99,5 +112,21 @@ pub fn obey(
             next: end,
         };
     }
-    obey_command(session, stream, at, buffer, transforms, chains)
+    let mut shared = session.shared;
+    let turn = obey_command(
+        held_of(session),
+        stream,
+        at,
+        &mut shared,
+        buffer,
+        transforms,
+        chains,
+    );
+    let held = turn.held;
+    let reply = turn.reply;
+    Step {
+        session: session_of(held, shared),
+        reply: reply,
+        next: turn.next,
+    }
 }

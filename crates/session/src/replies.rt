@@ -1,18 +1,18 @@
 // What a refused command answers.
 ghost use mathlib.Core.Path.{_≡_};
-ghost use Rattle.session.specs.Inner.Steps.{step};
+ghost use Rattle.session.specs.Inner.Steps.{turn};
 ghost use Rattle.session.specs.declared.Reply.the-variants.{Refused};
 use crate::Reply;
-use crate::Step;
+use crate::Turn;
 use refusal::Refusal;
-use session_record::Session;
+use session_record::Held;
 
-// The session stays as it is.
-pub fn refuse(session: Session, refusal: Refusal, next: usize) -> Step
-    ensures { λ r. ⌜ r ≡ step session (Refused refusal) next ⌝ }
+// What is held stays as it is.
+pub fn refuse(held: Held, refusal: Refusal, next: usize) -> Turn
+    ensures { λ r. ⌜ r ≡ turn held (Refused refusal) next ⌝ }
 {
-    Step {
-        session: session,
+    Turn {
+        held: held,
         reply: Reply::Refused(refusal),
         next: next,
     }

@@ -4,33 +4,35 @@ ghost use mathlib.Core.Path.{_≡_};
 ghost use mathlib.Core.List.{List};
 ghost use lib.Ieee.{Float};
 ghost use Rattle.command.specs.Command.{size, edit};
+ghost use Rattle.shared_counts.specs.Summary.{summaryOf};
+ghost use Rattle.session_record.specs.Session.{sessionOf};
 ghost use Rattle.session.specs.Call.{state, obeyed};
-ghost use Rattle.session.specs.Inner.Steps.{resultOf};
+ghost use Rattle.session.specs.Inner.Steps.{turnResult};
 use crate::Reply;
-use crate::Step;
+use crate::Turn;
 use crate::replies::refuse;
 use inputs::Checked;
 use inputs::check_sizes;
 use refusal::Refusal;
-use session_record::Session;
+use session_record::Held;
 use session_record::change::with_sizes;
 
-// 22, then 1 to 3 as the direct call has them.
-pub fn obey_size(session: Session, views: u8, cameras: u8, reference: u8, next: usize) -> Step
-    ensures { λ r. ⌜ ((b f : List Float) (g : List ℕ) → resultOf r b f g ≡ obeyed (state session b f g) (edit (size views cameras reference)) next) ⌝ }
+// 22, then 1 to 3 as the direct call has them. The masks stay, and so their summary does.
+pub fn obey_size(held: Held, views: u8, cameras: u8, reference: u8, next: usize) -> Turn
+    ensures { λ r. ⌜ ((shared : List ℕ) (b f : List Float) (g : List ℕ) → shared ≡ summaryOf (held .masks) → turnResult r shared b f g ≡ obeyed (state (sessionOf held shared) b f g) (edit (size views cameras reference)) next) ⌝ }
 {
-    if session.views != 0 {
-        return refuse(session, Refusal::SizeAgain, next);
+    if held.views != 0 {
+        return refuse(held, Refusal::SizeAgain, next);
     }
     if let Checked::Refused(refusal) = check_sizes(
         views as usize,
         cameras as usize,
         reference as usize,
     ) {
-        return refuse(session, refusal, next);
+        return refuse(held, refusal, next);
     }
-    Step {
-        session: with_sizes(session, views, cameras, reference),
+    Turn {
+        held: with_sizes(held, views, cameras, reference),
         reply: Reply::Accepted,
         next: next,
     }

@@ -1,4 +1,3 @@
 -- Laws of the check of a record, beside the proofs of the functions. Assumes nothing.
 pub mod Refusals
-pub mod AllBelow
 pub mod PossibleRecords

@@ -11,10 +11,13 @@ use lib.Pow.{pow-pos}
 use borrow.Author.Tests.{lt-ltb, le-ltb, eq-eqb, ne-eqb, ltb-true, eqb-true, leb-false}
 use Rattle.limits.specs.Limits.{maxViews, maxCameras}
 use Rattle.inputs.specs.Inputs.{sizeRefusal}
-use Rattle.session_record.specs.Session.{possible, isNone, possibleSizes, possibleMasks, maskFits}
+use Rattle.shared_counts.specs.Summary.{summaryOf, isSummary}
+use Rattle.session_record.specs.Session.{heldOf, possible, possibleHeld, isNone, possibleSizes, possibleMasks, maskFits}
 use Rattle.session_record.specs.declared.Session.{Session}
+use Rattle.session_record.specs.declared.Held.{Held}
 use Rattle.lists.proofs.Tests.{and-true, or-false}
-use Rattle.session_record.proofs.AllBelow.{allBelow-at}
+use Rattle.lists.proofs.AllBelow.{allBelow-at}
+use Rattle.shared_counts.proofs.Summaries.{summary-of-isSummary}
 use Rattle.session_record.proofs.Refusals.{WithinLimits, isNone-none, sizes-within-limits}
 
 -- ---- one mask
@@ -35,21 +38,21 @@ below-power m v = go (decLt m (2 ^ v))
     go (no n) = ne-eqb (m / 2 ^ v) 0 (λ e. n (omega (arith, div-lt-iff-lt-mul {x = m} {y = 1} (pow-pos v) .0 (omega arith)))) ∙ sym (le-ltb m (2 ^ v) (omega arith))
 
 -- A mask that fits, by where the camera is.
-module _ (s : Session) (c : ℕ) where
+module _ (s : Held) (c : ℕ) where
   pub maskFits-outside : s .cameras ≤ c → maskFits s c ≡ eqb (getD (s .masks) c 0) 0
   maskFits-outside h = rw (le-ltb c (s .cameras) h) (sym (below-one (getD (s .masks) c 0)))
 
   pub maskFits-inside : c < s .cameras → maskFits s c ≡ ltb (getD (s .masks) c 0) (2 ^ s .views)
   maskFits-inside h = rw (lt-ltb c (s .cameras) h)
 
-pub record CellInside (s : Session) (view camera : ℕ) : Type 0 where
+pub record CellInside (s : Held) (view camera : ℕ) : Type 0 where
   pub view-inside : view < s .views
   pub camera-inside : camera < s .cameras
   pub view-small : view < maxViews
   pub camera-small : camera < maxCameras
   pub cameras-fit : s .cameras ≤ maxCameras
 
-module _ (s : Session) where
+module _ (s : Held) where
   -- ---- sizes
 
   or-none : (a : Bool) → a || isNone (sizeRefusal (s .views) (s .cameras) (s .reference)) ≡ true → (a ≡ true → s .views ≡ 0)
@@ -72,15 +75,15 @@ module _ (s : Session) where
       go (yes y) = omega arith
       go (no n) = possibleSizes-within h n .views-fit
 
-  -- ---- a whole record
+  -- ---- what is held, as a whole
 
-  module _ (h : possible s ≡ true) (some : s .views ≡ 0 → ⊥) where
+  module _ (h : possibleHeld s ≡ true) (some : s .views ≡ 0 → ⊥) where
     pub possible-within : WithinLimits (s .views) (s .cameras) (s .reference)
-    unfolding possible
+    unfolding possibleHeld
     possible-within = possibleSizes-within (and-true (possibleSizes s) (possibleMasks s) h .0) some
 
     pub possible-mask : (c : ℕ) → c < s .cameras → getD (s .masks) c 0 < 2 ^ s .views
-    unfolding possible
+    unfolding possibleHeld
     possible-mask c l =
         let fits = allBelow-at (maskFits s) maxCameras c (and-true (possibleSizes s) (possibleMasks s) h .1) (omega (arith, possible-within .cameras-fit)) in
         ltb-true (getD (s .masks) c 0) (2 ^ s .views) (sym (maskFits-inside s c l) ∙ fits)
@@ -96,3 +99,28 @@ module _ (s : Session) where
           camera-small = omega (arith, leb-false (s .cameras) c (each .1), possible-within .cameras-fit);
           cameras-fit = possible-within .cameras-fit;
         }
+
+-- ---- a whole record
+
+module _ (s : Session) where
+  pub impossible-sizes : possibleSizes (heldOf s) ≡ false → possible s ≡ false
+  unfolding possible
+  impossible-sizes e = rw e
+
+  pub impossible-masks : possibleSizes (heldOf s) ≡ true → possibleMasks (heldOf s) ≡ false → possible s ≡ false
+  unfolding possible
+  impossible-masks e f = rw (e, f)
+
+  pub possible-by-summary : possibleSizes (heldOf s) ≡ true → possibleMasks (heldOf s) ≡ true → possible s ≡ isSummary (s .masks) (s .shared)
+  unfolding possible
+  possible-by-summary e f = rw (e, f)
+
+  module _ (h : possible s ≡ true) where
+    pub possible-held : possibleHeld (heldOf s) ≡ true
+    unfolding possible
+    possible-held = and-true (possibleHeld (heldOf s)) (isSummary (s .masks) (s .shared)) h .0
+
+    -- No entry of the summary is false.
+    pub possible-summary : s .shared ≡ summaryOf (s .masks)
+    unfolding possible
+    possible-summary = summary-of-isSummary (s .masks) (s .shared) (and-true (possibleHeld (heldOf s)) (isSummary (s .masks) (s .shared)) h .1)

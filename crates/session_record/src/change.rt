@@ -1,16 +1,15 @@
 // The record changed, one part a function.
-ghost use Prim.Native.Nat.{_<_};
 ghost use mathlib.Core.Path.{_≡_};
-ghost use Rattle.limits.specs.Limits.{maxCameras};
-ghost use Rattle.session_record.specs.Session.{withSizes, withMask};
-use crate::Session;
+ghost use Rattle.session_record.specs.Session.{withSizes, withMasks};
+use crate::Held;
+use limits::MAX_CAMERAS;
 
 // The record with other sizes.
-pub fn with_sizes(session: Session, views: u8, cameras: u8, reference: u8) -> Session
-    ensures { λ r. ⌜ r ≡ withSizes session views cameras reference ⌝ }
+pub fn with_sizes(held: Held, views: u8, cameras: u8, reference: u8) -> Held
+    ensures { λ r. ⌜ r ≡ withSizes held views cameras reference ⌝ }
 {
-    let masks = session.masks;
-    Session {
+    let masks = held.masks;
+    Held {
         masks: masks,
         views: views,
         cameras: cameras,
@@ -18,17 +17,14 @@ pub fn with_sizes(session: Session, views: u8, cameras: u8, reference: u8) -> Se
     }
 }
 
-// The record with another mask for one camera.
-pub fn with_mask(session: Session, camera: u8, mask: u64) -> Session
-    requires { ⌜ camera < maxCameras ⌝ }
-    ensures { λ r. ⌜ r ≡ withMask session camera mask ⌝ }
+// The record with other masks.
+pub fn with_masks(held: Held, masks: [u64; MAX_CAMERAS]) -> Held
+    ensures { λ r. ⌜ r ≡ withMasks held masks ⌝ }
 {
-    let mut masks = session.masks;
-    masks[camera as usize] = mask;
-    Session {
+    Held {
         masks: masks,
-        views: session.views,
-        cameras: session.cameras,
-        reference: session.reference,
+        views: held.views,
+        cameras: held.cameras,
+        reference: held.reference,
     }
 }

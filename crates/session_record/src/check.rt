@@ -3,23 +3,26 @@ ghost use Prim.Native.Nat.{_≤_, _<_};
 ghost use mathlib.Core.Path.{_≡_};
 ghost use Rattle.limits.specs.Limits.{maxViews, maxCameras};
 ghost use Rattle.session_record.specs.Session.{possible, possibleSizes, possibleMasks, maskFits};
+use crate::Held;
 use crate::Session;
+use crate::held_of;
 use inputs::Checked;
 use inputs::check_sizes;
 use limits::MAX_CAMERAS;
 use limits::MAX_VIEWS;
+use shared_counts::is_summary;
 
 // No sizes at all, or sizes that Size accepts.
-fn has_possible_sizes(session: Session) -> bool
-    ensures { λ r. ⌜ r ≡ possibleSizes session ⌝ }
+fn has_possible_sizes(held: Held) -> bool
+    ensures { λ r. ⌜ r ≡ possibleSizes held ⌝ }
 {
-    if (session.views == 0) & (session.cameras == 0) & (session.reference == 0) {
+    if (held.views == 0) & (held.cameras == 0) & (held.reference == 0) {
         return true;
     }
     match check_sizes(
-        session.views as usize,
-        session.cameras as usize,
-        session.reference as usize,
+        held.views as usize,
+        held.cameras as usize,
+        held.reference as usize,
     ) {
         Checked::Refused(_) => false,
         Checked::Passed => true,
@@ -27,27 +30,27 @@ fn has_possible_sizes(session: Session) -> bool
 }
 
 // Whether no bit of the camera's mask is outside the sizes.
-fn mask_fits(session: Session, camera: usize) -> bool
-    requires { ⌜ (camera < maxCameras) × (session .views ≤ maxViews) ⌝ }
-    ensures { λ r. ⌜ r ≡ maskFits session camera ⌝ }
+fn mask_fits(held: Held, camera: usize) -> bool
+    requires { ⌜ (camera < maxCameras) × (held .views ≤ maxViews) ⌝ }
+    ensures { λ r. ⌜ r ≡ maskFits held camera ⌝ }
 {
-    let mask = session.masks[camera];
-    if session.cameras as usize <= camera {
+    let mask = held.masks[camera];
+    if held.cameras as usize <= camera {
         return mask == 0;
     }
-    if MAX_VIEWS <= session.views as usize {
+    if MAX_VIEWS <= held.views as usize {
         return true;
     }
-    mask >> session.views == 0
+    mask >> held.views == 0
 }
 
-fn has_possible_masks(session: Session) -> bool
-    requires { ⌜ session .views ≤ maxViews ⌝ }
-    ensures { λ r. ⌜ r ≡ possibleMasks session ⌝ }
+fn has_possible_masks(held: Held) -> bool
+    requires { ⌜ held .views ≤ maxViews ⌝ }
+    ensures { λ r. ⌜ r ≡ possibleMasks held ⌝ }
 {
     let mut camera = 0;
     while camera < MAX_CAMERAS {
-        if !mask_fits(session, camera) {
+        if !mask_fits(held, camera) {
             return false;
         }
         camera += 1;
@@ -55,12 +58,18 @@ fn has_possible_masks(session: Session) -> bool
     true
 }
 
-// Each part of the record by its own check; the masks are looked at where the sizes are possible.
+// Each part of the record by its own check; the masks are looked at where the sizes are possible, and the summary where the masks are.
 pub fn is_possible(session: Session) -> bool
     ensures { λ r. ⌜ r ≡ possible session ⌝ }
 {
-    if !has_possible_sizes(session) {
+    let held = held_of(session);
+    if !has_possible_sizes(held) {
         return false;
     }
-    has_possible_masks(session)
+    if !has_possible_masks(held) {
+        return false;
+    }
+    let masks = session.masks;
+    let shared = session.shared;
+    is_summary(&masks, &shared)
 }

@@ -18,12 +18,14 @@ use Rattle.refusal.specs.declared.Refusal.{Refusal}
 use Rattle.refusal.specs.declared.Refusal.the-variants.{TooLong, WrongLength}
 use Rattle.inputs.specs.declared.Checked.{Checked}
 use Rattle.command.specs.Command.{Parsed, complete, broken, unknown, parse}
+use Rattle.session_record.specs.Session.{heldOf, sessionOf}
 use Rattle.session.specs.Call.{maxStream, State, state, Result, callRefusal, read, call}
-use Rattle.session.specs.Inner.Steps.{resultOf}
+use Rattle.session.specs.Inner.Steps.{turnResult}
+use Rattle.session_record.specs.declared.Held.{Held}
 use Rattle.session_record.specs.declared.Session.{Session}
-use Rattle.session.specs.declared.Step.{Step}
+use Rattle.session.specs.declared.Turn.{Turn}
 use Rattle.session.specs.declared.Reply.the-variants.{Refused}
-use Rattle.session.proofs.PassedCalls.{Ready, call-passed}
+use Rattle.session.proofs.PassedCalls.{call-passed}
 use Rattle.session.proofs.Obeying.{call-read}
 use Rattle.command.proofs.Decoding.{parse-complete}
 use Rattle.session.proofs.Advancing.{call-advances}
@@ -228,26 +230,26 @@ module _ {p : Part} {t : State} {stream : List ℕ} {at used : ℕ} {old new : L
       ∙ ap (part t at) (append-nil (g .said))
 
   -- The same from what the code's functions promise: the command obeyed, and its reply's text behind the others.
-  pub going-step : at < length stream → listingBytes ≤ length new - used → (step : Step) (buffer first : List Float) (second new′ : List ℕ) (used′ : ℕ)
-      → resultOf step buffer first second ≡ read t stream at (parse stream at)
-      → Put new used (written (step .reply) (step .session) first second (length new - used)) new′ used′
-      → Going p (state (step .session) buffer first second) stream (step .next) used′ old new′
-  going-step h holds step buffer first second new′ used′ obeyed put′ =
-      let called : resultOf step buffer first second ≡ call t stream at = obeyed ∙ sym (call-read t stream at (g .passes) (λ e. omega arith)) in
+  pub going-step : at < length stream → listingBytes ≤ length new - used → (turn : Turn) (shared : List ℕ) (buffer first : List Float) (second new′ : List ℕ) (used′ : ℕ)
+      → turnResult turn shared buffer first second ≡ read t stream at (parse stream at)
+      → Put new used (written (turn .reply) (turn .held) first second (length new - used)) new′ used′
+      → Going p (state (sessionOf (turn .held) shared) buffer first second) stream (turn .next) used′ old new′
+  going-step h holds turn shared buffer first second new′ used′ obeyed put′ =
+      let called : turnResult turn shared buffer first second ≡ call t stream at = obeyed ∙ sym (call-read t stream at (g .passes) (λ e. omega arith)) in
       subst (λ (r : Result). Going p (r .after) stream (r .next) used′ old new′) (sym called)
       (going-on h (omega (arith, going-length)) new′ used′
       (subst (λ (text : List ℕ). Put new used text new′ used′) (printed-written called) put′))
     where
-      printed-written : resultOf step buffer first second ≡ call t stream at
-          → written (step .reply) (step .session) first second (length new - used) ≡ printedBy (call t stream at)
+      printed-written : turnResult turn shared buffer first second ≡ call t stream at
+          → written (turn .reply) (turn .held) first second (length new - used) ≡ printedBy (call t stream at)
       printed-written called =
-          ap (λ (r : Result). written (r .reply) (r .after .session) (r .after .first) (r .after .second) (length new - used)) called
+          ap (λ (r : Result). written (r .reply) (heldOf (r .after .session)) (r .after .first) (r .after .second) (length new - used)) called
           ∙ written-call t stream at (length new - used)
           ∙ rw (le-leb listingBytes (length new - used) holds)
 
-  pub going-advances : at < length stream → (step : Step) (buffer first : List Float) (second : List ℕ)
-      → resultOf step buffer first second ≡ read t stream at (parse stream at) → at < step .next
-  going-advances h step buffer first second obeyed =
+  pub going-advances : at < length stream → (turn : Turn) (shared : List ℕ) (buffer first : List Float) (second : List ℕ)
+      → turnResult turn shared buffer first second ≡ read t stream at (parse stream at) → at < turn .next
+  going-advances h turn shared buffer first second obeyed =
       subst (λ (r : Result). at < r .next) (sym (obeyed ∙ sym (call-read t stream at (g .passes) (λ e. omega arith)))) (call-advances t stream at h)
 
 -- ---- text put into the part behind the bytes in use
@@ -271,11 +273,12 @@ put-behind old used text new count h same f =
 -- ---- what the code's answer says
 
 -- An answer that has a part's record and offset, and its text at the front.
-pub leaves-part : {t : State} {next : ℕ} {text : List ℕ} {p : Part} → part t next text ≡ p → {count : ℕ} {old new : List ℕ} (x : Checked) → Front old text new count
-    → Leaves p (record { session = t .session; refused = x; next = next; length = count }) (t .buffer) (t .first) (t .second) old new
-leaves-part e {count} {old} {new} x f =
+pub leaves-of : {t : State} {next : ℕ} {text : List ℕ} {p : Part} → part t next text ≡ p → {s : Session} → s ≡ t .session
+    → {count : ℕ} {old new : List ℕ} (x : Checked) → Front old text new count
+    → Leaves p (record { session = s; refused = x; next = next; length = count }) (t .buffer) (t .first) (t .second) old new
+leaves-of e same {count} {old} {new} x f =
     record {
-      session = ap (λ (p : Part). p .after .session) e;
+      session = same ∙ ap (λ (p : Part). p .after .session) e;
       buffer-after = ap (λ (p : Part). p .after .buffer) e;
       first-after = ap (λ (p : Part). p .after .first) e;
       second-after = ap (λ (p : Part). p .after .second) e;
@@ -309,7 +312,7 @@ pub leaves-same : {p q : Part} {answer : StreamText} {buffer first : List Float}
 leaves-same {answer} {buffer} {first} {second} {old} {new} e l = subst (λ (p : Part). Leaves p answer buffer first second old new) e l
 
 -- A refusal's line where any reply has room.
-pub front-refusal : (r : Refusal) (session : Session) (first : List Float) (second : List ℕ) {old new : List ℕ} {count : ℕ} → listingBytes ≤ length old
-    → Front old (written (Refused r) session first second (length old)) new count → Front old (refusalLine r) new count
+pub front-refusal : (r : Refusal) (held : Held) (first : List Float) (second : List ℕ) {old new : List ℕ} {count : ℕ} → listingBytes ≤ length old
+    → Front old (written (Refused r) held first second (length old)) new count → Front old (refusalLine r) new count
 unfolding written fits replyText
-front-refusal r session first second {old} h f = rw (le-leb listingBytes (length old) h) at f
+front-refusal r held first second {old} h f = rw (le-leb listingBytes (length old) h) at f

@@ -19,7 +19,10 @@ use session::MAX_STREAM;
 use session::Reply;
 use session::check_call;
 use session::commands::obey_command;
+use session_record::Held;
 use session_record::Session;
+use session_record::held_of;
+use session_record::session_of;
 
 // The session after the commands obeyed, whether the text was refused, the offset of the next command, and the bytes of the text in use.
 pub struct StreamText {
@@ -32,20 +35,20 @@ pub struct StreamText {
 // The text of a reply behind `used` bytes of the text; the bytes then in use.
 fn write_behind(
     reply: Reply,
-    session: Session,
+    held: Held,
     transforms: &[f64],
     chains: &[u8],
     text: &mut [u8],
     used: usize,
 ) -> usize
     requires { ⌜ used ≤ length (now text) ⌝ }
-    ensures { λ r. ⌜ Put (now (text .entry)) used (written reply session (now (transforms .entry)) (now (chains .entry)) (length (now (text .entry)) - used)) (now (text .exit)) r ⌝ }
+    ensures { λ r. ⌜ Put (now (text .entry)) used (written reply held (now (transforms .entry)) (now (chains .entry)) (length (now (text .entry)) - used)) (now (text .exit)) r ⌝ }
 {
-    used + write_reply(reply, session, transforms, chains, &mut text[used..])
+    used + write_reply(reply, held, transforms, chains, &mut text[used..])
 }
 
 // Once the checks before all else have passed: command after command, while the text surely holds the next reply. The record is not checked
-// again, since every command leaves one that passes.
+// again, since every command leaves one that passes, and its summary is changed where it stands.
 fn obey_commands(
     session: Session,
     stream: &[u8],
@@ -58,18 +61,19 @@ fn obey_commands(
     requires { ⌜ callRefusal (state session (now buffer) (now transforms) (now chains)) (now stream) at ≡ none ⌝ }
     ensures { λ r. ⌜ (r .refused ≡ Passed) × Leaves (partWithin (length (now (stream .entry))) (state session (now (buffer .entry)) (now (transforms .entry)) (now (chains .entry))) (now (stream .entry)) at (length (now (text .entry)))) r (now (buffer .exit)) (now (transforms .exit)) (now (chains .exit)) (now (text .entry)) (now (text .exit)) ⌝ }
 {
-    let mut session = session;
+    let mut shared = session.shared;
+    let mut held = held_of(session);
     let mut at = at;
     let mut used = 0usize;
     while (at < stream.len()) & (LISTING_BYTES <= text.len() - used) {
-        let step = obey_command(session, stream, at, buffer, transforms, chains);
-        let reply = step.reply;
-        session = step.session;
-        used = write_behind(reply, session, transforms, chains, text, used);
-        at = step.next;
+        let turn = obey_command(held, stream, at, &mut shared, buffer, transforms, chains);
+        let reply = turn.reply;
+        held = turn.held;
+        used = write_behind(reply, held, transforms, chains, text, used);
+        at = turn.next;
     }
     StreamText {
-        session: session,
+        session: session_of(held, shared),
         refused: Checked::Passed,
         next: at,
         length: used,
@@ -109,7 +113,13 @@ pub fn obey_stream(
         };
     }
     if let Checked::Refused(refusal) = check_call(session, stream, at, buffer, transforms, chains) {
-        let length = write_reply(Reply::Refused(refusal), session, transforms, chains, text);
+        let length = write_reply(
+            Reply::Refused(refusal),
+            held_of(session),
+            transforms,
+            chains,
+            text,
+        );
         return StreamText {
             session: session,
             refused: Checked::Passed,

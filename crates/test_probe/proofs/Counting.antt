@@ -11,6 +11,8 @@ use lib.ListN.{length, length-append}
 use lib.Dec.{ltb}
 use lib.Ieee.{Float}
 use borrow.Author.Tests.{le-ltb, lt-ltb, le-leb}
+use Rattle.session_record.specs.Session.{heldOf}
+use Rattle.session_record.specs.declared.Held.{Held}
 use Rattle.session.specs.Call.{State, state, call, Called}
 use Rattle.session.specs.declared.Step.{Step}
 use Rattle.listing.specs.Listing.{listingBytes, written, printedBy}
@@ -62,7 +64,8 @@ module _ {t : State} {stream : List ℕ} {at : ℕ} {step : Step} {buffer first 
   round-of-call =
       rw (called .session, called .buffer-after, called .first-after, called .second-after, called .next) (one-call t stream at)
 
-  pub written-whole : (room : ℕ) → listingBytes ≤ room → written (step .reply) (step .session) first second room ≡ printedBy (call t stream at)
-  written-whole room holds =
-      rw (called .reply, called .session, called .first-after, called .second-after)
+  pub written-whole : {h : Held} → h ≡ heldOf (step .session) → (room : ℕ) → listingBytes ≤ room
+      → written (step .reply) h first second room ≡ printedBy (call t stream at)
+  written-whole same room holds =
+      rw (same, called .reply, called .session, called .first-after, called .second-after)
       (written-call t stream at room ∙ rw (le-leb listingBytes room holds) refl)

@@ -10,7 +10,8 @@ use listing::LISTING_BYTES;
 use listing::write_reply;
 use session::Reply;
 use session::obey;
-use session_record::Session;
+use session_record::Held;
+use session_record::held_of;
 use std::num::wrapping_add_u64;
 use stream_text::obey_stream;
 
@@ -62,7 +63,7 @@ pub fn print_by_commands(
         session = step.session;
         at = step.next;
         let from = place_behind(used, text.len());
-        used = write_from(reply, session, transforms, chains, text, from);
+        used = write_from(reply, held_of(session), transforms, chains, text, from);
         count = wrapping_add_u64(count, (used - from) as u64);
         more = at < stream.len();
     }
@@ -80,14 +81,14 @@ fn place_behind(used: usize, room: usize) -> usize
 // The text of a reply from a place on, and the place behind it.
 fn write_from(
     reply: Reply,
-    session: Session,
+    held: Held,
     transforms: &[f64],
     chains: &[u8],
     text: &mut [u8],
     from: usize,
 ) -> usize
     requires { ⌜ from ≤ length (now text) ⌝ }
-    ensures { λ r. ⌜ r ≡ from + length (written reply session (now (transforms .entry)) (now (chains .entry)) (length (now (text .entry)) - from)) ⌝ }
+    ensures { λ r. ⌜ r ≡ from + length (written reply held (now (transforms .entry)) (now (chains .entry)) (length (now (text .entry)) - from)) ⌝ }
 {
-    from + write_reply(reply, session, transforms, chains, &mut text[from..])
+    from + write_reply(reply, held, transforms, chains, &mut text[from..])
 }

@@ -9,6 +9,7 @@ use session::FIRST_FLOATS;
 use session::SECOND_BYTES;
 use session::Step;
 use session_record::BUFFER_FLOATS;
+use session_record::held_of;
 
 const STANDARD_INPUT: i32 = 0;
 
@@ -150,6 +151,7 @@ fn replay_calls(
 // The lines of the reply, as `rig` prints them; none for a command that was accepted.
 fn print_step(step: Step, transforms: &[f64], chains: &[u8], text: &mut [u8]) {
     let reply = step.reply;
-    let length = write_reply(reply, step.session, transforms, chains, text);
+    let held = held_of(step.session);
+    let length = write_reply(reply, held, transforms, chains, text);
     io::write_all(STANDARD_OUTPUT, &text[..length]);
 }

@@ -1,6 +1,6 @@
 // Tests: runs the cases of samples/cases.py, which samples/make.py writes to this crate's stdin. Each is a session record, an offset,
-// the lengths of the memory to lend, and a stream. Prints the next offset and the reply of each call, to the stream's end, and then
-// the record.
+// the lengths of the memory to lend, two cameras, and a stream. Prints the next offset and the reply of each call, to the stream's end, then
+// the record with its summary, and what the query answers for the cameras.
 ghost use Prim.Native.Nat.{_+_, _≤_, _<_};
 ghost use lib.ListN.{length};
 use libc::STDIN_FILENO;
@@ -10,12 +10,17 @@ use listing::write_reply;
 use session::Reply;
 use session::Step;
 use session_record::Session;
+use session_record::held_of;
+use shared_query::Shared;
+use shared_query::shared_views;
 
-// A case begins with a line that is its label, and 24 words of 64 bits: the masks; views, cameras, reference; the offset; the lengths
-// of buffer, first and second answer; the stream's length. The stream follows.
+// A case begins with a line that is its label, and 26 words of 64 bits: the masks; views, cameras, reference; the offset; the lengths
+// of buffer, first and second answer; the stream's length; the two cameras to ask for. The summary, a byte an entry, and the stream follow.
 const LABEL_BYTES: usize = 64;
 
-const HEADER_BYTES: usize = 192;
+const HEADER_BYTES: usize = 208;
+
+const SUMMARY_BYTES: usize = 256;
 
 const MOST_CASES: usize = 4096;
 
@@ -35,6 +40,8 @@ struct Case {
     first: usize,
     second: usize,
     length: usize,
+    asked: u8,
+    with: u8,
 }
 
 fn main() {
@@ -56,6 +63,7 @@ fn run_cases(memory: &mut [u8]) {
 fn run_case(memory: &mut [u8]) -> bool {
     let mut label = [0u8; LABEL_BYTES];
     let mut header = [0u8; HEADER_BYTES];
+    let mut summary = [0u8; SUMMARY_BYTES];
     if io::read_full(STDIN_FILENO, &mut label) < LABEL_BYTES {
         return false;
     }
@@ -63,7 +71,10 @@ fn run_case(memory: &mut [u8]) -> bool {
     if io::read_full(STDIN_FILENO, &mut header) < HEADER_BYTES {
         return false;
     }
-    let case = read_case(&header);
+    if io::read_full(STDIN_FILENO, &mut summary) < SUMMARY_BYTES {
+        return false;
+    }
+    let case = read_case(&header, summary);
     let length = case.length;
     if length > memory.len() {
         return false;
@@ -115,7 +126,9 @@ fn run_lent(
         &mut chains[..second],
         text,
     );
-    print_record(after)
+    print_record(after);
+    print_summary(after);
+    print_asked(after, case.asked, case.with)
 }
 
 // Calls from an offset on until the next is not below the stream's length; the record after them.
@@ -147,8 +160,8 @@ fn run_calls(
 fn print_step(step: Step, transforms: &[f64], chains: &[u8], text: &mut [u8]) -> bool {
     io::print_decimal(STDOUT_FILENO, step.next as u64);
     let reply = step.reply;
-    let session = step.session;
-    let length = write_reply(reply, session, transforms, chains, text);
+    let held = held_of(step.session);
+    let length = write_reply(reply, held, transforms, chains, text);
     match reply {
         Reply::End => io::write_all(STDOUT_FILENO, b" end\n"),
         Reply::Accepted => io::write_all(STDOUT_FILENO, b" accepted\n"),
@@ -177,19 +190,53 @@ fn print_record(session: Session) -> bool {
     io::write_all(STDOUT_FILENO, b"\n")
 }
 
+fn print_summary(session: Session) -> bool {
+    io::write_all(STDOUT_FILENO, b"shared");
+    let shared = session.shared;
+    let mut entry = 0usize;
+    while entry < 256 {
+        print_field(shared[entry] as u64);
+        entry += 1;
+    }
+    io::write_all(STDOUT_FILENO, b"\n")
+}
+
+fn print_asked(session: Session, asked: u8, with: u8) -> bool {
+    io::write_all(STDOUT_FILENO, b"asked ");
+    io::print_decimal(STDOUT_FILENO, asked as u64);
+    io::write_all(STDOUT_FILENO, b" ");
+    io::print_decimal(STDOUT_FILENO, with as u64);
+    io::write_all(STDOUT_FILENO, b": ");
+    print_shared(shared_views(session, asked, with));
+    io::write_all(STDOUT_FILENO, b"\n")
+}
+
+fn print_shared(shared: Shared) -> bool {
+    match shared {
+        Shared::Count(count) => io::print_decimal(STDOUT_FILENO, count as u64),
+        Shared::Refused(refusal) => {
+            io::write_all(STDOUT_FILENO, b"no ");
+            io::print_decimal(STDOUT_FILENO, refusal.number() as u64);
+            io::write_all(STDOUT_FILENO, b" ");
+            io::print_decimal(STDOUT_FILENO, refusal.detail() as u64)
+        }
+    }
+}
+
 fn print_field(n: u64) -> bool {
     io::write_all(STDOUT_FILENO, b" ");
     io::print_hex(STDOUT_FILENO, n, 1)
 }
 
-fn read_case(header: &[u8]) -> Case
-    requires { ⌜ 192 ≤ length (now header) ⌝ }
+fn read_case(header: &[u8], summary: [u8; SUMMARY_BYTES]) -> Case
+    requires { ⌜ 208 ≤ length (now header) ⌝ }
 {
     let session = Session {
         masks: read_masks(header),
         views: low_byte(read_word(header, 128)),
         cameras: low_byte(read_word(header, 136)),
         reference: low_byte(read_word(header, 144)),
+        shared: summary,
     };
     Case {
         session: session,
@@ -198,6 +245,8 @@ fn read_case(header: &[u8]) -> Case
         first: read_word(header, 168) as usize,
         second: read_word(header, 176) as usize,
         length: read_word(header, 184) as usize,
+        asked: low_byte(read_word(header, 192)),
+        with: low_byte(read_word(header, 200)),
     }
 }
 

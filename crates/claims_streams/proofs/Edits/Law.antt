@@ -17,7 +17,7 @@ use Rattle.lists.specs.Masks.{inMask}
 use Rattle.inputs.proofs.InTurn.{If, Small}
 use Rattle.command.specs.Command.{Edit, edit}
 use Rattle.command.specs.Writing.{OfBytes}
-use Rattle.session_record.specs.Session.{bufferLength, cellStart, possible}
+use Rattle.session_record.specs.Session.{heldOf, bufferLength, cellStart, possible}
 use Rattle.session.specs.Commands.{editRefusal, editSession, editBuffer}
 use Rattle.session_record.specs.declared.Session.{Session}
 use Rattle.session.specs.declared.Reply.the-variants.{Refused}
@@ -41,24 +41,24 @@ FiniteCell (some p) = T (finitePose p)
 
 pub record EditLaw (change : Edit) : Type 0 where
   -- What refuses it does not end the stream, and names no more than 32 bits.
-  pub goes-on : (s : Session) → If GoesOn (editRefusal s change)
-  pub small : (s : Session) → T (possible s) → OfBytes (edit change) → Small (editRefusal s change)
+  pub goes-on : (s : Session) → If GoesOn (editRefusal (heldOf s) change)
+  pub small : (s : Session) → T (possible s) → OfBytes (edit change) → Small (editRefusal (heldOf s) change)
   -- It leaves as many masks as there were.
   pub masks-kept : (s : Session) → length (editSession s change .masks) ≡ length (s .masks)
   -- Accepted, it leaves a sound record, and sizes by what it is.
-  pub sound-after : (s : Session) → editRefusal s change ≡ none → Sound s → Sound (editSession s change)
-  pub views-after : (s : Session) → editRefusal s change ≡ none → ViewsAfter s change
+  pub sound-after : (s : Session) → editRefusal (heldOf s) change ≡ none → Sound s → Sound (editSession s change)
+  pub views-after : (s : Session) → editRefusal (heldOf s) change ≡ none → ViewsAfter s change
   -- The buffer stays as long as it is.
-  pub length-kept : (s : Session) (buffer : List Float) → editRefusal s change ≡ none → Sound s → length buffer ≡ bufferLength
+  pub length-kept : (s : Session) (buffer : List Float) → editRefusal (heldOf s) change ≡ none → Sound s → length buffer ≡ bufferLength
       → length (editBuffer buffer change) ≡ length buffer
   -- Of each cell it leaves what it says that it leaves, and finite numbers where there were such; it writes floats to a cell that held none and then
   -- holds a pose, and to no other.
-  pub cells-after : (s : Session) (buffer : List Float) → editRefusal s change ≡ none → Sound s → length (s .masks) ≡ maxCameras
+  pub cells-after : (s : Session) (buffer : List Float) → editRefusal (heldOf s) change ≡ none → Sound s → length (s .masks) ≡ maxCameras
       → length buffer ≡ bufferLength → (v c : ℕ) (o : Option Pose) → c < maxCameras → HoldsCell (s .masks) buffer v c o
       → HoldsCell (editSession s change .masks) (editBuffer buffer change) v c (cellAfter change v c o)
-  pub finite-after : (s : Session) → editRefusal s change ≡ none → (v c : ℕ) (o : Option Pose) → FiniteCell o → FiniteCell (cellAfter change v c o)
-  pub into-empty : (s : Session) → editRefusal s change ≡ none → (v c : ℕ) → writes change v c ≡ true → inMask (getD (s .masks) c 0) v ≡ false
+  pub finite-after : (s : Session) → editRefusal (heldOf s) change ≡ none → (v c : ℕ) (o : Option Pose) → FiniteCell o → FiniteCell (cellAfter change v c o)
+  pub into-empty : (s : Session) → editRefusal (heldOf s) change ≡ none → (v c : ℕ) → writes change v c ≡ true → inMask (getD (s .masks) c 0) v ≡ false
   pub holds-written : (v c : ℕ) → writes change v c ≡ true → (o : Option Pose) → (p : Pose) × (cellAfter change v c o ≡ some p)
-  pub others-kept : (s : Session) (buffer : List Float) → editRefusal s change ≡ none → Sound s → length buffer ≡ bufferLength
+  pub others-kept : (s : Session) (buffer : List Float) → editRefusal (heldOf s) change ≡ none → Sound s → length buffer ≡ bufferLength
       → (v c : ℕ) → c < maxCameras → writes change v c ≡ false
       → (k : ℕ) → k < 7 → getD (editBuffer buffer change) (cellStart v c + k) nan ≡ getD buffer (cellStart v c + k) nan

@@ -25,7 +25,7 @@ use Rattle.inputs.proofs.Answering.{refuseIf-none, firstOf-none-all, Sizes}
 use Rattle.lists.proofs.Tests.{or-false}
 use Rattle.inputs.proofs.InTurn.{If, ShortDetail, Small, if-firstOf, if-refuseIf}
 use Rattle.command.specs.Command.{Edit, place}
-use Rattle.session_record.specs.Session.{bufferLength, cellStart, hasSize, namedCell, possible}
+use Rattle.session_record.specs.Session.{heldOf, bufferLength, cellStart, hasSize, namedCell, possible}
 use Rattle.session.specs.Commands.{editRefusal, editSession, editBuffer}
 use Rattle.session_record.specs.declared.Session.{Session}
 use Rattle.claims_streams.specs.Stream.{endsStream}
@@ -49,17 +49,17 @@ pub record Placeable (s : Session) (view camera : ℕ) (p : Pose) : Type 0 where
 module _ (s : Session) (view camera : ℕ) (p : Pose) where
   abbrev pub placeChecks : List (Option Refusal)
   placeChecks =
-      refuseIf (not (hasSize s)) NoSize
+      refuseIf (not (hasSize (heldOf s))) NoSize
       ∷ refuseIf (leb (s .views) view || leb (s .cameras) camera) (OutsideRig (namedCell view camera))
       ∷ refuseIf (inMask (getD (s .masks) camera 0) view) (HeldAlready (namedCell view camera))
       ∷ refuseIf (not (finitePose p)) (NotFinite (view * s .cameras + camera))
       ∷ []
 
-  pub place-checks : editRefusal s (place view camera p) ≡ firstOf placeChecks
+  pub place-checks : editRefusal (heldOf s) (place view camera p) ≡ firstOf placeChecks
   unfolding editRefusal
   place-checks = refl
 
-  pub place-accepted : editRefusal s (place view camera p) ≡ none → Placeable s view camera p
+  pub place-accepted : editRefusal (heldOf s) (place view camera p) ≡ none → Placeable s view camera p
   place-accepted e =
       let (_, (outside, (held, (not-finite, _)))) = firstOf-none-all placeChecks (sym place-checks ∙ e) in
       let (view-outside, camera-outside) = or-false _ _ (refuseIf-none _ _ outside) in
@@ -70,7 +70,7 @@ module _ (s : Session) (view camera : ℕ) (p : Pose) where
         all-finite = not-false _ (refuseIf-none _ _ not-finite);
       }
 
-  pub accepts-place : Placeable s view camera p → editRefusal s (place view camera p) ≡ none
+  pub accepts-place : Placeable s view camera p → editRefusal (heldOf s) (place view camera p) ≡ none
   accepts-place h =
       place-checks
       ∙ firstOf-all-none placeChecks (
@@ -88,7 +88,7 @@ module _ (s : Session) (view camera : ℕ) (p : Pose) where
       inside = rw (lt-leb (s .views) view (h .view-inside)) (lt-leb (s .cameras) camera (h .camera-inside))
 
   -- A sound record that accepts it has sizes, and so the cell is within the limits.
-  module _ (sound : Sound s) (e : editRefusal s (place view camera p) ≡ none) where
+  module _ (sound : Sound s) (e : editRefusal (heldOf s) (place view camera p) ≡ none) where
     sizes : Sizes (s .views) (s .cameras) (s .reference)
     sizes = has-sizes s sound (omega (arith, place-accepted e .view-inside))
 
@@ -135,7 +135,7 @@ module _ (view camera : ℕ) (p : Pose) where
 
   -- ---- the law
 
-  goes-on : (s : Session) → If GoesOn (editRefusal s change)
+  goes-on : (s : Session) → If GoesOn (editRefusal (heldOf s) change)
   unfolding endsStream
   goes-on s =
       subst (If GoesOn) (sym (place-checks s view camera p))
@@ -144,13 +144,13 @@ module _ (view camera : ℕ) (p : Pose) where
         λ e. (if-refuseIf GoesOn _ _ refl, λ e. (if-refuseIf GoesOn _ _ refl, λ e. (if-refuseIf GoesOn _ _ refl, λ e. tt))),
       ))
 
-  small : (s : Session) → T (possible s) → (view < 256) × (camera < 256) → Small (editRefusal s change)
+  small : (s : Session) → T (possible s) → (view < 256) × (camera < 256) → Small (editRefusal (heldOf s) change)
   small s allowed (h, k) =
       let fit = within-limits s allowed in
       let below : view ≤ 256 = omega (arith, h) in
       subst Small (sym (place-checks s view camera p))
       (if-firstOf ShortDetail (placeChecks s view camera p) (
-        if-refuseIf ShortDetail (not (hasSize s)) NoSize (omega arith),
+        if-refuseIf ShortDetail (not (hasSize (heldOf s))) NoSize (omega arith),
         λ e. (
           if-refuseIf ShortDetail (leb (s .views) view || leb (s .cameras) camera) (OutsideRig (namedCell view camera)) (omega (arith, h, k)),
           λ e. (
@@ -163,7 +163,7 @@ module _ (view camera : ℕ) (p : Pose) where
         ),
       ))
 
-  sound-after : (s : Session) → editRefusal s change ≡ none → Sound s → Sound (editSession s change)
+  sound-after : (s : Session) → editRefusal (heldOf s) change ≡ none → Sound s → Sound (editSession s change)
   unfolding editSession
   sound-after s e h =
       let here = place-accepted s view camera p e in
@@ -176,16 +176,17 @@ module _ (view camera : ℕ) (p : Pose) where
             plus-below m view (here .not-held) (s .views) (here .view-inside)
             (h .inside camera (camera-fits s view camera p h e) (here .camera-inside)));
         outside = λ i l k. getD-set-other (s .masks) camera i (m + 2 ^ view) 0 (omega (arith, here .camera-inside)) ∙ h .outside i l k;
+        true-summary = refl;
       }
 
-  length-kept : (s : Session) (buffer : List Float) → editRefusal s change ≡ none → Sound s → length buffer ≡ bufferLength
+  length-kept : (s : Session) (buffer : List Float) → editRefusal (heldOf s) change ≡ none → Sound s → length buffer ≡ bufferLength
       → length (editBuffer buffer change) ≡ length buffer
   unfolding editBuffer
   length-kept s buffer e sound fits =
       let room = cell-fits s view camera p sound e buffer fits in
       simp (length-append, length-take, length-drop) (omega (arith, room))
 
-  others-kept : (s : Session) (buffer : List Float) → editRefusal s change ≡ none → Sound s → length buffer ≡ bufferLength
+  others-kept : (s : Session) (buffer : List Float) → editRefusal (heldOf s) change ≡ none → Sound s → length buffer ≡ bufferLength
       → (v c : ℕ) → c < maxCameras → (v ≡ view → c ≡ camera → ⊥)
       → (k : ℕ) → k < 7 → getD (editBuffer buffer change) (cellStart v c + k) nan ≡ getD buffer (cellStart v c + k) nan
   unfolding editBuffer
@@ -194,7 +195,7 @@ module _ (view camera : ℕ) (p : Pose) where
       ⊎-elim (getD-put-before buffer (cellStart view camera) p room (cellStart v c + k)) (getD-put-after buffer (cellStart view camera) p room (cellStart v c + k))
       (cells-apart v c view camera k h (camera-fits s view camera p sound e) other l)
 
-  cells-after : (s : Session) (buffer : List Float) → editRefusal s change ≡ none → Sound s → length (s .masks) ≡ maxCameras
+  cells-after : (s : Session) (buffer : List Float) → editRefusal (heldOf s) change ≡ none → Sound s → length (s .masks) ≡ maxCameras
       → length buffer ≡ bufferLength → (v c : ℕ) (o : Option Pose) → c < maxCameras → HoldsCell (s .masks) buffer v c o
       → HoldsCell (editSession s change .masks) (editBuffer buffer change) v c (cellAfter change v c o)
   unfolding editSession editBuffer
@@ -223,14 +224,14 @@ module _ (view camera : ℕ) (p : Pose) where
           (holds-same (s .masks) masks buffer floats v c o (bit-elsewhere (s .masks) view camera inside clear v c other)
           (poseAt-agree floats buffer (cellStart v c) (others-kept s buffer e sound fits v c h other)) before)
 
-  finite-after : (s : Session) → editRefusal s change ≡ none → (v c : ℕ) (o : Option Pose) → FiniteCell o → FiniteCell (cellAfter change v c o)
+  finite-after : (s : Session) → editRefusal (heldOf s) change ≡ none → (v c : ℕ) (o : Option Pose) → FiniteCell o → FiniteCell (cellAfter change v c o)
   finite-after s e v c o before = go (named v c)
     where
       go : Named v c → FiniteCell (cellAfter change v c o)
       go (this-cell _ _ _ now) = subst FiniteCell (sym (now o)) (rw (place-accepted s view camera p e .all-finite) tt)
       go (another _ _ stays) = subst FiniteCell (sym (stays o)) before
 
-  into-empty : (s : Session) → editRefusal s change ≡ none → (v c : ℕ) → writes change v c ≡ true → inMask (getD (s .masks) c 0) v ≡ false
+  into-empty : (s : Session) → editRefusal (heldOf s) change ≡ none → (v c : ℕ) → writes change v c ≡ true → inMask (getD (s .masks) c 0) v ≡ false
   into-empty s e v c names = go (named v c)
     where
       go : Named v c → inMask (getD (s .masks) c 0) v ≡ false

@@ -23,7 +23,7 @@ use Rattle.lists.proofs.Tests.{or-false}
 use Rattle.inputs.proofs.Answering.{refuseIf-none, firstOf-none-all, Sizes}
 use Rattle.inputs.proofs.InTurn.{If, ShortDetail, Small, if-firstOf, if-refuseIf}
 use Rattle.command.specs.Command.{Edit, withdraw}
-use Rattle.session_record.specs.Session.{hasSize, namedCell}
+use Rattle.session_record.specs.Session.{heldOf, hasSize, namedCell}
 use Rattle.session.specs.Commands.{editRefusal, editSession, editBuffer}
 use Rattle.session_record.specs.declared.Session.{Session}
 use Rattle.claims_streams.specs.Stream.{endsStream}
@@ -45,16 +45,16 @@ pub record Withdrawable (s : Session) (view camera : ℕ) : Type 0 where
 module _ (s : Session) (view camera : ℕ) where
   abbrev pub withdrawChecks : List (Option Refusal)
   withdrawChecks =
-      refuseIf (not (hasSize s)) NoSize
+      refuseIf (not (hasSize (heldOf s))) NoSize
       ∷ refuseIf (leb (s .views) view || leb (s .cameras) camera) (OutsideRig (namedCell view camera))
       ∷ refuseIf (not (inMask (getD (s .masks) camera 0) view)) (NotHeld (namedCell view camera))
       ∷ []
 
-  pub withdraw-checks : editRefusal s (withdraw view camera) ≡ firstOf withdrawChecks
+  pub withdraw-checks : editRefusal (heldOf s) (withdraw view camera) ≡ firstOf withdrawChecks
   unfolding editRefusal
   withdraw-checks = refl
 
-  pub withdraw-accepted : editRefusal s (withdraw view camera) ≡ none → Withdrawable s view camera
+  pub withdraw-accepted : editRefusal (heldOf s) (withdraw view camera) ≡ none → Withdrawable s view camera
   withdraw-accepted e =
       let (_, (outside, (empty, _))) = firstOf-none-all withdrawChecks (sym withdraw-checks ∙ e) in
       let (view-outside, camera-outside) = or-false _ _ (refuseIf-none _ _ outside) in
@@ -64,7 +64,7 @@ module _ (s : Session) (view camera : ℕ) where
         held = not-false _ (refuseIf-none _ _ empty);
       }
 
-  pub accepts-withdraw : Withdrawable s view camera → editRefusal s (withdraw view camera) ≡ none
+  pub accepts-withdraw : Withdrawable s view camera → editRefusal (heldOf s) (withdraw view camera) ≡ none
   accepts-withdraw h =
       withdraw-checks
       ∙ firstOf-all-none withdrawChecks (
@@ -76,7 +76,7 @@ module _ (s : Session) (view camera : ℕ) where
       inside = rw (lt-leb (s .views) view (h .view-inside)) (lt-leb (s .cameras) camera (h .camera-inside))
 
   -- A sound record that accepts it has sizes, and so the cell is within the limits.
-  module _ (sound : Sound s) (e : editRefusal s (withdraw view camera) ≡ none) where
+  module _ (sound : Sound s) (e : editRefusal (heldOf s) (withdraw view camera) ≡ none) where
     sizes : Sizes (s .views) (s .cameras) (s .reference)
     sizes = has-sizes s sound (omega (arith, withdraw-accepted e .view-inside))
 
@@ -101,7 +101,7 @@ module _ (view camera : ℕ) where
   abbrev change : Edit
   change = withdraw view camera
 
-  goes-on : (s : Session) → If GoesOn (editRefusal s change)
+  goes-on : (s : Session) → If GoesOn (editRefusal (heldOf s) change)
   unfolding endsStream
   goes-on s =
       subst (If GoesOn) (sym (withdraw-checks s view camera))
@@ -110,11 +110,11 @@ module _ (view camera : ℕ) where
         λ e. (if-refuseIf GoesOn _ _ refl, λ e. (if-refuseIf GoesOn _ _ refl, λ e. tt)),
       ))
 
-  small : (s : Session) → (view < 256) × (camera < 256) → Small (editRefusal s change)
+  small : (s : Session) → (view < 256) × (camera < 256) → Small (editRefusal (heldOf s) change)
   small s (h, k) =
       subst Small (sym (withdraw-checks s view camera))
       (if-firstOf ShortDetail (withdrawChecks s view camera) (
-        if-refuseIf ShortDetail (not (hasSize s)) NoSize (omega arith),
+        if-refuseIf ShortDetail (not (hasSize (heldOf s))) NoSize (omega arith),
         λ e. (
           if-refuseIf ShortDetail (leb (s .views) view || leb (s .cameras) camera) (OutsideRig (namedCell view camera)) (omega (arith, h, k)),
           λ e. (
@@ -124,7 +124,7 @@ module _ (view camera : ℕ) where
         ),
       ))
 
-  sound-after : (s : Session) → editRefusal s change ≡ none → Sound s → Sound (editSession s change)
+  sound-after : (s : Session) → editRefusal (heldOf s) change ≡ none → Sound s → Sound (editSession s change)
   unfolding editSession
   sound-after s e h =
       let here = withdraw-accepted s view camera e in
@@ -135,9 +135,10 @@ module _ (view camera : ℕ) where
             each-set (λ (x : ℕ). x < 2 ^ s .views) (s .masks) camera (m - 2 ^ view) i (h .inside i l k)
             (λ same. let below = h .inside camera (camera-fits s view camera h e) (here .camera-inside) in omega arith);
         outside = λ i l k. getD-set-other (s .masks) camera i (m - 2 ^ view) 0 (omega (arith, here .camera-inside)) ∙ h .outside i l k;
+        true-summary = refl;
       }
 
-  cells-after : (s : Session) (buffer : List Float) → editRefusal s change ≡ none → Sound s → length (s .masks) ≡ maxCameras
+  cells-after : (s : Session) (buffer : List Float) → editRefusal (heldOf s) change ≡ none → Sound s → length (s .masks) ≡ maxCameras
       → (v c : ℕ) (o : Option Pose) → HoldsCell (s .masks) buffer v c o → HoldsCell (editSession s change .masks) buffer v c (cellAfter change v c o)
   unfolding editSession cellAfter
   cells-after s buffer e sound sixteen v c o before = go (of-cell view camera v c)

@@ -4,9 +4,9 @@ use mathlib.Core.Path.{_≡_, sym, ap, _∙_}
 use mathlib.Core.Bool.{true, false}
 use borrow.Author.Tests.{not-false, not-true}
 use borrow.Author.Needs.{needs}
+use Rattle.record_words.specs.Words.{isRecord}
+use Rattle.record_words.proofs.Records.{isRecord-words}
 use Rattle.placer.specs.Code.{codeOf}
-use Rattle.placer.specs.Step.{isRecord}
-use Rattle.placer.proofs.Records.{isRecord-words}
 use Rattle.placer.proofs.Steps.{stepped-refused, stepped-obeyed}
 use Rattle.placer.proofs.placer_step.Statement.{statement}
 use Rattle.placer.proofs.placer_step.Tie as tie

@@ -11,7 +11,7 @@ returns c =
     let a = c .before .before .before .before .before .before .before .args in
     let w = c .before .before .write-reply in
     put-behind (a .text .now) (a .used)
-    (λ (room : ℕ). written (a .reply) (a .session) (a .transforms .now) (a .chains .now) room) _ _ (search needs) (search needs) (w .ensures)
+    (λ (room : ℕ). written (a .reply) (a .held) (a .transforms .now) (a .chains .now) room) _ _ (search needs) (search needs) (w .ensures)
 
 pub write-behind-spec : {M : Type 1} → statement M
 write-behind-spec =

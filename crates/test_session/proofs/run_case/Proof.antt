@@ -5,8 +5,8 @@ use borrow.Author.Needs.{needs}
 use Rattle.test_session.proofs.run_case.Statement.{statement}
 use Rattle.test_session.proofs.run_case.Tie as tie
 
-slice-aggregate-read-full-3 : tie.Need-slice-aggregate-read-full-3
-slice-aggregate-read-full-3 c = simp length-take (omega arith)
+slice-aggregate-read-full-4 : tie.Need-slice-aggregate-read-full-4
+slice-aggregate-read-full-4 c = simp length-take (omega arith)
 
 slice-aggregate-run-lent : tie.Need-slice-aggregate-run-lent
 slice-aggregate-run-lent c = simp (length-take, length-append, length-drop) (omega arith)
@@ -27,7 +27,10 @@ run-case-spec =
     (λ c κs. search needs)
     (λ c. search needs)
     (λ c. search needs)
-    slice-aggregate-read-full-3
+    (λ c κs. search needs)
+    (λ c. search needs)
+    (λ c. search needs)
+    slice-aggregate-read-full-4
     (λ c κs. search needs)
     (λ c. search needs)
     (λ c. search needs)

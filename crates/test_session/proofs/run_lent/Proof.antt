@@ -29,6 +29,8 @@ run-lent-spec =
     slice-aggregate-run-calls-3
     (λ c κs. search needs)
     (λ c κs. search needs)
+    (λ c κs. search needs)
+    (λ c κs. search needs)
     (λ c. search needs)
     (λ c. search needs)
     (λ c. search needs)

@@ -1,11 +1,13 @@
-//! Streams of commands: what each call must answer, from document 01, "A stream arrives", and document 02's change 1, with the Rust under
-//! Solve; and streams made at random, and damaged.
+//! Streams of commands: what each call must answer, from document 01, "A stream arrives", and document 02's changes 1 and 2, with the Rust under
+//! Solve; and streams made at random, and damaged. The shared counts are counted anew from the held cells wherever they are looked at.
 
 use crate::grid::{near_identity, pose, Grid, Pose, MAX_CAMERAS, MAX_VIEWS, POSE_FLOATS};
 use crate::oracle::{verdict, Verdict};
 use random::Random;
 
-pub const RECORD_WORDS: usize = 19;
+pub const SHARED_WORD: usize = 19;
+pub const SHARED_COUNTS: usize = MAX_CAMERAS * MAX_CAMERAS;
+pub const RECORD_WORDS: usize = SHARED_WORD + SHARED_COUNTS;
 pub const BUFFER_FLOATS: usize = 7168;
 pub const FIRST_FLOATS: usize = 560;
 pub const SECOND_BYTES: usize = 32;
@@ -57,8 +59,28 @@ impl State {
         cells.filter(|&(view, camera)| which(self.holds(view, camera))).map(|(view, camera)| cell_start(view, camera)).collect()
     }
 
+    /// For each two cameras, row after row, how many views hold poses of both: view by view, a one for each two of the cameras that are held there.
+    pub fn counted(&self) -> [u64; SHARED_COUNTS] {
+        let mut counts = [0; SHARED_COUNTS];
+        let seen = self.record[..MAX_CAMERAS].iter().fold(0, |seen, mask| seen | mask);
+        for view in (0..MAX_VIEWS).filter(|view| seen >> view & 1 == 1) {
+            for first in (0..MAX_CAMERAS).filter(|&camera| self.holds(view, camera)) {
+                for second in (0..MAX_CAMERAS).filter(|&camera| self.holds(view, camera)) {
+                    counts[MAX_CAMERAS * first + second] += 1;
+                }
+            }
+        }
+        counts
+    }
+
+    /// Makes the record's shared counts those of the cells that are held.
+    pub fn count(&mut self) {
+        let counts = self.counted();
+        self.record[SHARED_WORD..].copy_from_slice(&counts);
+    }
+
     /// Whether accepted commands can leave the record.
-    fn is_possible(&self) -> bool {
+    pub fn is_possible(&self) -> bool {
         if self.record.len() != RECORD_WORDS {
             return false;
         }
@@ -67,6 +89,7 @@ impl State {
         let fresh = views == 0 && cameras == 0 && reference == 0;
         (sized || fresh)
             && (0..MAX_CAMERAS).all(|c| if (c as u64) < cameras { views == 64 || self.record[c] >> views == 0 } else { self.record[c] == 0 })
+            && self.record[SHARED_WORD..] == self.counted()
     }
 
     /// The grid that masks and buffer hold.
@@ -151,7 +174,7 @@ fn size(state: &mut State, command: &[u8]) -> u64 {
         (_, 17..) => refusal(2, 0),
         _ if reference >= cameras => refusal(3, 0),
         _ => {
-            state.record[16..].copy_from_slice(&[views as u64, cameras as u64, reference as u64]);
+            state.record[16..SHARED_WORD].copy_from_slice(&[views as u64, cameras as u64, reference as u64]);
             ACCEPTED
         }
     }
@@ -174,6 +197,7 @@ fn place(state: &mut State, command: &[u8]) -> u64 {
         return refusal(7, view * state.cameras() + camera);
     }
     state.record[camera] |= 1 << view;
+    state.count();
     let at = cell_start(view, camera);
     state.buffer[at..at + POSE_FLOATS].copy_from_slice(&offered);
     ACCEPTED
@@ -193,6 +217,7 @@ fn withdraw(state: &mut State, command: &[u8]) -> u64 {
         return refusal(24, named);
     }
     state.record[camera] &= !(1 << view);
+    state.count();
     ACCEPTED
 }
 
@@ -208,6 +233,26 @@ fn solve(state: &mut State) -> u64 {
             SOLVED
         }
     }
+}
+
+/// The query, as document 02's change 2 has it: the entry of two cameras, or a refusal.
+pub fn query(state: &State, first: u8, second: u8) -> u64 {
+    let named = first as usize * 256 + second as usize;
+    if !state.is_possible() {
+        return refusal(5, 0);
+    }
+    if state.views() == 0 {
+        return refusal(21, 0);
+    }
+    if first as usize >= state.cameras() || second as usize >= state.cameras() {
+        return refusal(12, named);
+    }
+    state.counted()[MAX_CAMERAS * first as usize + second as usize]
+}
+
+/// The library's query on the same record.
+pub fn library_query(state: &State, first: u8, second: u8) -> u64 {
+    unsafe { placer::ffi::placer_shared(state.record.as_ptr(), state.record.len(), first, second) }
 }
 
 /// The library's call on the same state.
@@ -291,6 +336,59 @@ pub fn fill(random: &mut Random, floats: &mut Vec<f64>, length: usize, fourths_n
         let bits = random.bits();
         if bits & 3 < fourths_nan { nan_of(bits) } else { f64::from_bits(bits) }
     }));
+}
+
+// ---- records
+
+/// A record of any sizes with any poses, its shared counts true; at times a fresh one.
+pub fn random_record(random: &mut Random, record: &mut Vec<u64>) {
+    record.clear();
+    record.resize(RECORD_WORDS, 0);
+    if random.once_in(16) {
+        return;
+    }
+    let (views, cameras) = (random.between(1, MAX_VIEWS), random.between(1, MAX_CAMERAS));
+    let density = random.below(4);
+    for mask in &mut record[..cameras] {
+        *mask = match density {
+            0 => random.bits() & random.bits() & random.bits(),
+            1 => random.bits() | random.bits() | random.bits(),
+            2 if random.once_in(2) => 0,
+            _ => random.bits(),
+        } >> (MAX_VIEWS - views);
+    }
+    record[16..SHARED_WORD].copy_from_slice(&[views as u64, cameras as u64, random.below(cameras) as u64]);
+}
+
+/// One or two shared counts changed, mostly by one: never to what it was.
+pub fn falsify(random: &mut Random, record: &mut [u64]) {
+    let (first, second) = (random.below(MAX_CAMERAS), random.below(MAX_CAMERAS));
+    // As often within the sizes as anywhere.
+    let cameras = (record[17] as usize).clamp(1, MAX_CAMERAS);
+    let (first, second) = if random.once_in(2) { (first % cameras, second % cameras) } else { (first, second) };
+    let entry = SHARED_WORD + MAX_CAMERAS * first + second;
+    let held = record[entry];
+    record[entry] = match random.below(8) {
+        0..3 => held + 1,
+        3..6 => held.wrapping_sub(1),
+        6 => held ^ 1 << random.below(64),
+        _ => held + 256,
+    };
+    // The pair's other entry alike.
+    if random.once_in(3) {
+        record[SHARED_WORD + MAX_CAMERAS * second + first] = record[entry];
+    }
+}
+
+/// Two cameras to ask for: mostly of the rig that a record is of, and at times any.
+pub fn random_cameras(random: &mut Random, record: &[u64]) -> (u8, u8) {
+    let cameras = record.get(17).map_or(1, |&cameras| (cameras as usize).clamp(1, MAX_CAMERAS));
+    let mut camera = || match random.below(16) {
+        0 => random.bits() as u8,
+        1..3 => random.below(18) as u8,
+        _ => random.below(cameras) as u8,
+    };
+    (camera(), camera())
 }
 
 // ---- streams

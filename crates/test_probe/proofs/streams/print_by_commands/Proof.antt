@@ -34,7 +34,7 @@ sub-count c = omega (arith, c .before .before .write-from .ensures)
 
 loop-less : tie.Need-loop-less Inv-loop μ-loop
 loop-less c =
-    let called = c .before .before .before .before .before .before .before .before .before .before .before .before .before .before .before in
+    let called = c .before .before .before .before .before .before .before .before .before .before .before .before .before .before .before .before in
     let turn = called .before .before .before .before in
     let l = turn .before .loop in
     round-falls (round-of-call {t = state (l .session) (l .buffer) (l .transforms) (l .chains)} (called .obey .ensures)) (turn .loop-test .taken)
@@ -46,8 +46,9 @@ counted from used bytes many e f = omega arith
 loop-again : tie.Need-loop-again Inv-loop μ-loop
 loop-again c =
     let wrote = c .before .before .before .write-from .ensures in
-    let place = c .before .before .before .before .before .before .before .place-behind .ensures in
-    let called = c .before .before .before .before .before .before .before .before .before .before .before .before .before .before .before in
+    let held = c .before .before .before .before .before .before .before .held-of .ensures in
+    let place = c .before .before .before .before .before .before .before .before .place-behind .ensures in
+    let called = c .before .before .before .before .before .before .before .before .before .before .before .before .before .before .before .before in
     let turn = called .before .before .before .before in
     let l = turn .before .loop in
     let now = state (l .session) (l .buffer) (l .transforms) (l .chains) in
@@ -57,7 +58,7 @@ loop-again c =
       search needs,
       search needs,
       search needs,
-      turn-counts _ (round-of-call {t = now} o) (turn .loop-test .taken) (l .count) _ _ (counted _ _ _ _ wrote (ap length (written-whole {t = now} o _ (omega (arith, place))))) (c .wrapping-add-u64 .ensures) (l .inv .5),
+      turn-counts _ (round-of-call {t = now} o) (turn .loop-test .taken) (l .count) _ _ (counted _ _ _ _ wrote (ap length (written-whole {t = now} o held _ (omega (arith, place))))) (c .wrapping-add-u64 .ensures) (l .inv .5),
     )
 
 returns : tie.Need-returns Inv-loop μ-loop
@@ -70,4 +71,4 @@ returns c =
 pub print-by-commands-spec : {M : Type 1} → statement M
 print-by-commands-spec =
     tie.close
-    (tie.spec Inv-loop μ-loop (λ c κs. search needs) loop-holds (λ c κs. search needs) (λ c κs. search needs) (λ c κs. search needs) sub-count (λ c κs. search needs) loop-less loop-again (λ c. search needs) (λ c. search needs) (λ c. search needs) (λ c. search needs) returns)
+    (tie.spec Inv-loop μ-loop (λ c κs. search needs) loop-holds (λ c κs. search needs) (λ c κs. search needs) (λ c κs. search needs) (λ c κs. search needs) sub-count (λ c κs. search needs) loop-less loop-again (λ c. search needs) (λ c. search needs) (λ c. search needs) (λ c. search needs) returns)

@@ -1,8 +1,11 @@
 //! Feeds damaged streams to the library and to the papers' meaning of a stream with the Rust under Solve, call by call: `fuzz STREAMS SEED
 //! CORPUS`, or `fuzz STREAMS SEED CORPUS NUMBER` for one stream of such a run. After every call its answer, its next offset and all lent
-//! memory are compared: bit by bit, but for a NaN that a Solve wrote.
+//! memory are compared: bit by bit, but for a NaN that a Solve wrote. So all 256 shared counts are held to a count over the held cells after every command.
+//!
+//! Beside the calls, and drawn apart from them: records with a false count in place of the true one, and records of any poses, most of them with a false
+//! count, a command each; and the query, on all of these.
 
-use drivers::grid::POSE_FLOATS;
+use drivers::grid::{near_identity, POSE_FLOATS};
 use drivers::stream::*;
 use random::Random;
 use std::collections::BTreeMap;
@@ -12,7 +15,11 @@ use std::process::exit;
 fn disturb(random: &mut Random, state: &mut State, length: usize, at: &mut usize) {
     match random.below(11) {
         0 => *at = length + random.between(1, 3),
-        1 => state.record[random.below(RECORD_WORDS)] ^= 1 << random.below(64),
+        // A mask with the counts that it then has: false counts are drawn beside the calls.
+        1 => {
+            state.record[random.below(SHARED_WORD)] ^= 1 << random.below(64);
+            state.count();
+        }
         2 => state.record[16 + random.below(3)] = random.bits() >> random.below(64),
         3 => {
             state.record.pop();
@@ -77,6 +84,60 @@ fn kind(answer: Answer, stream: &[u8], at: usize, withdrawn: &[[u8; 2]]) -> &'st
     KINDS.into_iter().find(|&kind| kind == name).unwrap_or_else(|| panic!("no answer is called {name}"))
 }
 
+/// What was tried beside the calls of the streams.
+#[derive(Default)]
+struct Beside {
+    records: u64,
+    false_records: u64,
+    counts: u64,
+    refused: BTreeMap<u64, u64>,
+}
+
+impl Beside {
+    /// Two cameras asked for, of the library and of the papers: what differs.
+    fn ask(&mut self, random: &mut Random, ours: &State, expected: &State) -> Option<String> {
+        let (first, second) = random_cameras(random, &ours.record);
+        let (answered, answer) = (library_query(ours, first, second), query(expected, first, second));
+        match answer >> 32 {
+            0 => self.counts += 1,
+            number => *self.refused.entry(number).or_default() += 1,
+        }
+        (answered != answer).then(|| format!("cameras {first} and {second} asked for: {answered:x}, and {answer:x} was expected"))
+    }
+
+    /// A command to a record that both sides hold, which is refused with 5 where it is false; and two cameras asked for, before and after: what differs.
+    fn command(&mut self, random: &mut Random, ours: &mut State, expected: &mut State, stream: &[u8], at: usize) -> Option<String> {
+        self.records += 1;
+        self.false_records += !expected.is_possible() as u64;
+        let asked = self.ask(random, ours, expected);
+        let answer = call(expected, stream, at);
+        let answered = library(ours, stream, at);
+        let written = written(expected, answer);
+        let fault = (answered != answer)
+            .then(|| format!("{answered:x?}, and {answer:x?} was expected"))
+            .or_else(|| difference(ours, expected, written));
+        take_nans(ours, expected, written);
+        asked.or(fault).or_else(|| self.ask(random, ours, expected))
+    }
+
+    fn queries(&self) -> u64 {
+        self.counts + self.refused.values().sum::<u64>()
+    }
+}
+
+/// A command of any kind, mostly one that a rig of those sizes accepts.
+fn random_command(random: &mut Random, stream: &mut Vec<u8>, record: &[u64]) {
+    let below = |random: &mut Random, size: u64| if random.once_in(16) { random.below(70) } else { random.below((size as usize).max(1)) };
+    let (view, camera) = (below(random, record[16]), below(random, record[17]));
+    stream.clear();
+    match random.below(8) {
+        0 => size_command(stream, view + 1, camera + 1, random.below(camera + 1)),
+        1 => solve_command(stream),
+        2..5 => withdraw_command(stream, view, camera),
+        _ => pose_command(stream, view, camera, near_identity(random)),
+    }
+}
+
 /// The comparison itself notices what it is there for: a NaN made quiet, another sign or payload, one bit of anything else; but not
 /// another NaN where a Solve wrote one.
 fn comparison_notices(random: &mut Random) {
@@ -99,11 +160,12 @@ fn comparison_notices(random: &mut Random) {
         assert!(difference(&first, &before, 0).is_some() && difference(&first, &before, 17).is_some(), "a NaN in the first answer");
         assert!(difference(&first, &before, 18).is_none(), "a NaN that was written");
     }
-    let (mut record, mut second, mut number) = (before.clone(), before.clone(), before.clone());
+    let (mut record, mut entry, mut second, mut number) = (before.clone(), before.clone(), before.clone(), before.clone());
     record.record[0] ^= 1;
+    entry.record[RECORD_WORDS - 1] ^= 1;
     second.chains[SECOND_BYTES - 1] ^= 1;
     number.transforms[17] = 0.0;
-    assert!([record, second, number].iter().all(|spoilt| difference(spoilt, &before, 18).is_some()), "anything else");
+    assert!([record, entry, second, number].iter().all(|spoilt| difference(spoilt, &before, 18).is_some()), "anything else");
 }
 
 fn main() {
@@ -123,6 +185,7 @@ fn main() {
     let (mut calls, mut differences) = (0u64, 0u64);
     let mut kinds: BTreeMap<&str, u64> = BTreeMap::new();
     let (mut ours, mut expected, mut spoilt) = (State::fresh(), State::fresh(), Vec::new());
+    let (mut beside, mut true_record, mut command) = (Beside::default(), Vec::new(), Vec::new());
     comparison_notices(&mut Random::new(seed, u64::MAX));
     let run = match only {
         Some(number) => number..number + 1,
@@ -131,6 +194,9 @@ fn main() {
     for number in run {
         let mut random = Random::new(seed, number);
         let random = &mut random;
+        // What is tried beside the calls has numbers of its own, so that the streams are those of a run without it.
+        let mut apart = Random::new(!seed, number);
+        let apart = &mut apart;
         let other = &corpus[random.below(corpus.len())];
         let mut stream = if random.once_in(2) { corpus[random.below(corpus.len())].clone() } else { random_stream(random, 6, 4) };
         if !random.once_in(20) {
@@ -162,6 +228,18 @@ fn main() {
                 ours.clone_from(&expected);
                 disturbed = false;
             }
+            // The same call with a false count first, which must change nothing; then with the true one.
+            let tried = if expected.record.len() == RECORD_WORDS && apart.once_in(4) {
+                true_record.clone_from(&expected.record);
+                falsify(apart, &mut expected.record);
+                ours.record.clone_from(&expected.record);
+                let fault = beside.command(apart, &mut ours, &mut expected, &stream, at);
+                expected.record.clone_from(&true_record);
+                ours.record.clone_from(&true_record);
+                fault
+            } else {
+                None
+            };
             let answer = call(&mut expected, &stream, at);
             let answered = library(&mut ours, &stream, at);
             calls += 1;
@@ -169,9 +247,10 @@ fn main() {
             *kinds.entry(kind).or_default() += 1;
             let last = answer.code == END || answer.next >= stream.len() || turns > 70_000;
             let written = written(&expected, answer);
-            let fault = (answered != answer)
-                .then(|| format!("{answered:x?}, and {answer:x?} was expected"))
-                .or_else(|| difference(&ours, &expected, written));
+            let fault = tried
+                .or_else(|| (answered != answer).then(|| format!("{answered:x?}, and {answer:x?} was expected")))
+                .or_else(|| difference(&ours, &expected, written))
+                .or_else(|| if apart.once_in(2) { beside.ask(apart, &ours, &expected) } else { None });
             take_nans(&ours, &mut expected, written);
             if let Some(fault) = fault {
                 differences += 1;
@@ -199,6 +278,25 @@ fn main() {
             at = answer.next;
             turns += 1;
         }
+        // Records of any poses, three in four with a false count, in what the stream left of all else.
+        expected.buffer.resize(BUFFER_FLOATS, 0.0);
+        expected.transforms.resize(FIRST_FLOATS, 0.0);
+        expected.chains.resize(SECOND_BYTES, 0);
+        ours.clone_from(&expected);
+        for _ in 0..4 {
+            random_record(apart, &mut expected.record);
+            expected.count();
+            if !apart.once_in(4) {
+                falsify(apart, &mut expected.record);
+            }
+            ours.record.clone_from(&expected.record);
+            random_command(apart, &mut command, &expected.record);
+            if let Some(fault) = beside.command(apart, &mut ours, &mut expected, &command, 0) {
+                differences += 1;
+                println!("DIFFERENCE beside stream {number} of seed {seed}, in a record drawn by itself: {fault}");
+                ours.clone_from(&expected);
+            }
+        }
         if differences > 20 {
             break;
         }
@@ -206,7 +304,18 @@ fn main() {
     println!("fuzz: {streams} streams of seed {seed}, {calls} calls: {differences} differences");
     let counts = KINDS.map(|kind| (kind, kinds.get(kind).copied().unwrap_or(0)));
     println!("  {}", counts.map(|(kind, count)| format!("{kind}: {count}")).join(", "));
-    let missing: Vec<&str> = counts.into_iter().filter(|&(_, count)| count == 0).map(|(kind, _)| kind).collect();
+    let refused = [5, 21, 12].map(|number| (number, beside.refused.get(&number).copied().unwrap_or(0)));
+    println!(
+        "  beside them: {} records, {} of them false, a command each, and {} queries, {} counts and {}",
+        beside.records,
+        beside.false_records,
+        beside.queries(),
+        beside.counts,
+        refused.map(|(number, count)| format!("{count} refused with {number}")).join(", "),
+    );
+    let tried = refused.map(|(_, count)| ("a refusal of the query", count)).into_iter();
+    let tried = tried.chain([("a count asked for", beside.counts), ("a false record", beside.false_records), ("a true record", beside.records - beside.false_records)]);
+    let missing: Vec<&str> = counts.into_iter().chain(tried).filter(|&(_, count)| count == 0).map(|(kind, _)| kind).collect();
     if differences > 0 {
         exit(1);
     }

@@ -1,0 +1,2 @@
+-- Rows on the summary of shared counts. Definitions only.
+pub mod Rows

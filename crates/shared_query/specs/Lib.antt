@@ -1,0 +1,2 @@
+-- What a session says of two cameras. Definitions only.
+pub mod Query
