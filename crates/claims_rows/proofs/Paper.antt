@@ -11,20 +11,16 @@ use lib.Ieee.{toBits, ofBits, ofInt, add, sub, mul, div, lt, eq}
 use Rattle.root.specs.Root.{rootOf}
 use Rattle.arithmetic.specs.Pose.{mulPose}
 use Rattle.mean.specs.Average.{averageIsometries}
-use Rattle.chains.specs.Masks.{viewsOfBoth, sharedBy}
 use Rattle.chains.specs.Layers.{isPlaced, parentOf, linksOf, startSpot, nextSpot, layersTo, layers}
 use Rattle.placing.specs.Grid.{isHeld, spots}
-use Rattle.lists.specs.Finding.{allBelow, count}
-use Rattle.lists.specs.Masks.{inMask}
-use Rattle.shared_counts.specs.Summary.{isSummary}
-use Rattle.session_record.specs.Session.{possible}
 use Rattle.session.specs.Commands.{commandRefusal}
 use Rattle.command.specs.Command.{parse}
 use Rattle.session.specs.Call.{replyTo, stateAfter}
-use Rattle.claims_streams.specs.Stream.{streamRefusal, contentsFrom, contentsOf, answerTo, answers, stateAfterAll, endingReply, answersOf, meaning}
+use Rattle.claims_streams.specs.Stream.{contentsFrom, contentsOf, answerTo, answers, stateAfterAll, endingReply, answersOf, meaning}
 use Rattle.listing.specs.Listing.{decimalWithin, decimalText, floatText, okLine, cameraLine, viewLine, cameraLineAt, viewLineAt, solvedText, replyText, listingBytes}
 use Rattle.stream_text.specs.StreamText.{Part}
 use Rattle.claims_printing.specs.Printed.{printed, roundsFrom, freshState}
+use Rattle.claims_rows.proofs.FreshRows.{freshAnswers, meaning-fresh}
 use Rattle.claims_rows.specs.Paper.{paperStream, paperText}
 use Rattle.claims_printing.proofs.Loop.{rounds-give-whole}
 
@@ -38,9 +34,12 @@ pub paperText-reads :
 unfolding paperText
 paperText-reads = refl
 
+paper-computed : printed (freshAnswers paperStream) ≡ paperText
+unfolding printed paperStream paperText freshAnswers contentsOf contentsFrom parse answersOf answers answerTo stateAfterAll endingReply commandRefusal replyTo stateAfter averageIsometries rootOf mulPose isHeld spots layers layersTo startSpot nextSpot isPlaced parentOf linksOf toBits ofBits ofInt add sub mul div lt eq replyText solvedText okLine cameraLineAt viewLineAt cameraLine viewLine decimalText floatText decimalWithin
+paper-computed = refl
+
 pub paper-listing : printed (meaning freshState paperStream) ≡ paperText
-unfolding printed paperStream paperText meaning streamRefusal contentsOf contentsFrom parse answersOf answers answerTo stateAfterAll endingReply commandRefusal possible isSummary allBelow sharedBy viewsOfBoth inMask count replyTo stateAfter averageIsometries rootOf mulPose isHeld spots layers layersTo startSpot nextSpot isPlaced parentOf linksOf toBits ofBits ofInt add sub mul div lt eq replyText solvedText okLine cameraLineAt viewLineAt cameraLine viewLine decimalText floatText decimalWithin
-paper-listing = refl
+paper-listing = ap printed (meaning-fresh paperStream) ∙ paper-computed
 
 pub paper-rounds : (rooms : ℕ → ℕ) → ((i : ℕ) → listingBytes ≤ rooms i) → roundsFrom (length paperStream) rooms freshState paperStream 0 .text ≡ paperText
 paper-rounds rooms hold = ap (λ (p : Part). p .text) (rounds-give-whole freshState paperStream rooms hold) ∙ paper-listing

@@ -22,17 +22,32 @@ use Rattle.claims_streams.specs.Stream.{meaning, streamRefusal, contentsFrom, c
 use Rattle.listing.specs.Listing.{decimalWithin, decimalText, floatText, refusalLine, okLine, cameraLine, viewLine, cameraLineAt, viewLineAt, solvedText, replyText}
 use Rattle.claims_printing.specs.Printed.{printed}
 use Rattle.claims_summary_rows.specs.Rows.{padded, joined, table}
+use Rattle.claims_rows.proofs.FreshRows.{FromFresh, freshPrinted, printed-fresh}
 use Rattle.claims_rows.specs.Rows.{Row, streamOf, textOf, allPrinted, allTexts, freshRows, solvedRows, otherRows, rows, allCalled, allTold, callRows}
 
 -- ---- three parts of the rows, computed apart
 
+fresh-rows-begin : FromFresh freshRows
+unfolding freshRows
+fresh-rows-begin = (refl, (refl, (refl, (refl, (refl, (refl, (refl, (refl, (refl, (refl, (refl, (refl, (refl, (refl, (refl, (refl, (refl, (refl, (refl, (refl, (refl, (refl, (refl, (refl, (refl, (refl, (refl, (refl, tt))))))))))))))))))))))))))))
+
+fresh-rows-computed : freshPrinted freshRows ≡ allTexts freshRows
+unfolding freshRows freshPrinted printed streamOf allTexts firstOf refuseIf contentsOf contentsFrom parse answersOf answers answerTo stateAfterAll endingReply commandRefusal replyTo stateAfter averageIsometries rootOf mulPose inversePose finitePose isHeld shared count spots layers layersTo startSpot nextSpot parentInLayer linkedInLayer inLayer mostViews takeIfMore isPlaced parentOf linksOf toBits ofBits ofInt add sub mul div neg lt eq replyText solvedText refusalLine okLine cameraLineAt viewLineAt cameraLine viewLine decimalText floatText decimalWithin
+fresh-rows-computed = refl
+
 fresh-rows-print : allPrinted freshRows ≡ allTexts freshRows
-unfolding freshRows allPrinted allTexts streamRefusal firstOf refuseIf contentsOf contentsFrom parse answersOf answers answerTo stateAfterAll endingReply commandRefusal possible isSummary allBelow sharedBy viewsOfBoth inMask table padded joined replyTo stateAfter averageIsometries rootOf mulPose inversePose finitePose isHeld shared count spots layers layersTo startSpot nextSpot parentInLayer linkedInLayer inLayer mostViews takeIfMore isPlaced parentOf linksOf toBits ofBits ofInt add sub mul div neg lt eq replyText solvedText refusalLine okLine cameraLineAt viewLineAt cameraLine viewLine decimalText floatText decimalWithin
-fresh-rows-print = refl
+fresh-rows-print = printed-fresh freshRows fresh-rows-begin ∙ fresh-rows-computed
+
+solved-rows-begin : FromFresh solvedRows
+unfolding solvedRows
+solved-rows-begin = (refl, (refl, (refl, (refl, (refl, (refl, tt))))))
+
+solved-rows-computed : freshPrinted solvedRows ≡ allTexts solvedRows
+unfolding solvedRows freshPrinted printed streamOf allTexts firstOf refuseIf contentsOf contentsFrom parse answersOf answers answerTo stateAfterAll endingReply commandRefusal replyTo stateAfter averageIsometries rootOf mulPose inversePose finitePose isHeld shared count spots layers layersTo startSpot nextSpot parentInLayer linkedInLayer inLayer mostViews takeIfMore isPlaced parentOf linksOf toBits ofBits ofInt add sub mul div neg lt eq replyText solvedText refusalLine okLine cameraLineAt viewLineAt cameraLine viewLine decimalText floatText decimalWithin
+solved-rows-computed = refl
 
 solved-rows-print : allPrinted solvedRows ≡ allTexts solvedRows
-unfolding solvedRows allPrinted allTexts streamRefusal firstOf refuseIf contentsOf contentsFrom parse answersOf answers answerTo stateAfterAll endingReply commandRefusal possible isSummary allBelow sharedBy viewsOfBoth inMask table padded joined replyTo stateAfter averageIsometries rootOf mulPose inversePose finitePose isHeld shared count spots layers layersTo startSpot nextSpot parentInLayer linkedInLayer inLayer mostViews takeIfMore isPlaced parentOf linksOf toBits ofBits ofInt add sub mul div neg lt eq replyText solvedText refusalLine okLine cameraLineAt viewLineAt cameraLine viewLine decimalText floatText decimalWithin
-solved-rows-print = refl
+solved-rows-print = printed-fresh solvedRows solved-rows-begin ∙ solved-rows-computed
 
 other-rows-print : allPrinted otherRows ≡ allTexts otherRows
 unfolding otherRows allPrinted allTexts streamRefusal firstOf refuseIf contentsOf contentsFrom parse answersOf answers answerTo stateAfterAll endingReply commandRefusal possible isSummary allBelow sharedBy viewsOfBoth inMask table padded joined replyTo stateAfter averageIsometries rootOf mulPose inversePose finitePose isHeld shared count spots layers layersTo startSpot nextSpot parentInLayer linkedInLayer inLayer mostViews takeIfMore isPlaced parentOf linksOf toBits ofBits ofInt add sub mul div neg lt eq replyText solvedText refusalLine okLine cameraLineAt viewLineAt cameraLine viewLine decimalText floatText decimalWithin
