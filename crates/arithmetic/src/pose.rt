@@ -6,7 +6,7 @@ ghost use Rattle.arithmetic.specs.Pose.{zero_vec, add_vec, scale_vec, neg_vec, c
 
 // A translation, or any vector: x, y, z.
 #[repr(C)]
-#[derive(Drop)]
+#[derive(Clone, Copy)]
 pub struct Vec3 {
     pub x: f64,
     pub y: f64,
@@ -15,7 +15,7 @@ pub struct Vec3 {
 
 // A quaternion i, j, k, w. Any four numbers are taken as a rotation.
 #[repr(C)]
-#[derive(Drop)]
+#[derive(Clone, Copy)]
 pub struct Quaternion {
     pub i: f64,
     pub j: f64,
@@ -25,7 +25,7 @@ pub struct Quaternion {
 
 // A transform T_A_B: a rotation and then a translation, rigid where the rotation has length one.
 #[repr(C)]
-#[derive(Drop)]
+#[derive(Clone, Copy)]
 pub struct Pose {
     pub translation: Vec3,
     pub rotation: Quaternion,

@@ -1,6 +1,8 @@
 // Layers of cameras around the reference, breadth first. Layer 0 is the reference. Each camera not yet placed that shares `least` views
 // with a camera of layer n goes to layer n + 1, and its parent is the camera of layer n that it shares most views with, lowest
 // index on ties. Views are bits of 64-bit masks, one mask a camera. Assumes nothing.
+#![tactic(auto)]
+
 ghost use Rattle.std.specs.Prelude.{ℕ, ◌+◌, ◌<◌, ◌≤◌, ◌≡◌, get_or};
 ghost use Rattle.limits.specs.Limits.{max_cameras};
 ghost use Rattle.chains.specs.Masks.{views_of_both, shared_by};

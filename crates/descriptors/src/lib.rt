@@ -1,10 +1,14 @@
-// Reading a descriptor to its end, and writing to one: a call that was interrupted is made again, and so is, after a pause, one that found the descriptor
+// Reading a stream to its end, and writing to one: a call that was interrupted is made again, and so is, after a pause, one that found the stream
 // not ready; any other failure is told. No contract can say which bytes are read or written.
+#![tactic(auto)]
+
 ghost use Rattle.std.specs.Prelude.{◌-◌, ◌≤◌, length};
+ghost use Rattle.std.specs.Io.{StartsWith};
 ghost use Rattle.descriptors.specs.Moved.{MovedWithin, ReadWithin, WrittenWhole};
 
-use libc::types::timespec;
-use libc::{EAGAIN, EINTR};
+use std::io::{Error, ErrorKind, Read, Write};
+use std::time::{Clock, Duration};
+use std::{io, thread};
 
 // What one call came to.
 #[derive(Drop)]
@@ -15,7 +19,7 @@ pub enum Moved {
     Nothing,
     // The call is to be made again.
     Again,
-    Failed,
+    Failed(Error),
 }
 
 // How a reading ended.
@@ -23,7 +27,7 @@ pub enum Moved {
 pub enum Input {
     // At the input's end, or where the memory was full, with so many bytes at its front.
     Whole(usize),
-    Failed,
+    Failed(Error),
 }
 
 // How a writing ended.
@@ -31,70 +35,58 @@ pub enum Input {
 pub enum Output {
     // All was written, so many bytes by the counts that the calls answered.
     Whole(usize),
-    Failed,
+    Failed(Error),
 }
 
 // Calls that are made at most, so that each loop ends: more than a machine makes in its life.
 const MOST_CALLS: u64 = 9223372036854775807;
 
-// How long is waited for a descriptor that is not ready, so that waiting leaves the processor to others: a millisecond.
-const PAUSE_NANOSECONDS: i64 = 1000000;
+// How long is waited for a stream that is not ready, so that waiting leaves the processor to others: a millisecond.
+const PAUSE_NANOSECONDS: u64 = 1000000;
 
-// Waits; for a shorter time where a signal comes.
-fn pause() {
-    let asked = timespec {
-        tv_sec: 0,
-        tv_nsec: PAUSE_NANOSECONDS,
-    };
-    let mut left = timespec {
-        tv_sec: 0,
-        tv_nsec: 0,
-    };
-    libc::nanosleep(&asked, &mut left);
+fn pause<C: Clock>(clock: &C) {
+    thread::sleep(clock, Duration::from_nanos(PAUSE_NANOSECONDS));
 }
 
 // What a call on these bytes came to, by its answer.
-fn told(answer: isize, bytes: &[u8]) -> Moved
+fn told<C: Clock>(clock: &C, answer: io::Result<usize>, bytes: &[u8]) -> Moved
     ensures { MovedWithin result (length bytes.now) }
 {
-    if answer == 0 {
-        return Moved::Nothing;
+    match answer {
+        Ok(0) => Moved::Nothing,
+        Ok(count) => Moved::Bytes(count.min(bytes.len())),
+        Err(error) => match error.kind() {
+            ErrorKind::Interrupted => Moved::Again,
+            ErrorKind::WouldBlock => {
+                pause(clock);
+                Moved::Again
+            }
+            _ => Moved::Failed(error),
+        },
     }
-    if answer < 0 {
-        let error = os::errno();
-        if error == EINTR {
-            return Moved::Again;
-        }
-        if error == EAGAIN {
-            pause();
-            return Moved::Again;
-        }
-        return Moved::Failed;
-    }
-    Moved::Bytes(io::count(answer, bytes))
 }
 
 // One read into the memory from a place on.
-fn read_some(fd: i32, memory: &mut [u8], from: usize) -> Moved
+fn read_some<C: Clock, R: Read>(clock: &C, input: &mut R, memory: &mut [u8], from: usize) -> Moved
     requires { from ≤ length memory.old }
     ensures { MovedWithin result (length memory.old - from) }
 {
-    let answer = libc::read(fd, &mut memory[from..]);
-    told(answer, &memory[from..])
+    let answer = input.read(&mut memory[from..]);
+    told(clock, answer, &memory[from..])
 }
 
 // Reads until the input ends or the memory is full.
-pub fn read_to_end(fd: i32, memory: &mut [u8]) -> Input
+pub fn read_to_end<C: Clock, R: Read>(clock: &C, input: &mut R, memory: &mut [u8]) -> Input
     ensures { ReadWithin result memory.new }
 {
     let mut done = 0usize;
     let mut calls = MOST_CALLS;
     while done < memory.len() {
         if calls == 0 {
-            return Input::Failed;
+            return Input::Failed(Error::from(ErrorKind::TimedOut));
         }
         calls -= 1;
-        match read_some(fd, memory, done) {
+        match read_some(clock, input, memory, done) {
             Moved::Bytes(got) => {
                 done += got;
             }
@@ -102,8 +94,8 @@ pub fn read_to_end(fd: i32, memory: &mut [u8]) -> Input
                 return Input::Whole(done);
             }
             Moved::Again => {}
-            Moved::Failed => {
-                return Input::Failed;
+            Moved::Failed(error) => {
+                return Input::Failed(error);
             }
         }
     }
@@ -111,29 +103,50 @@ pub fn read_to_end(fd: i32, memory: &mut [u8]) -> Input
 }
 
 // Writes all of the bytes; or fails where a call failed or took nothing, when some may have been written.
-pub fn write_whole(fd: i32, bytes: &[u8]) -> Output
+pub fn write_whole<C: Clock, W: Write>(clock: &C, output: &mut W, bytes: &[u8]) -> Output
     ensures { WrittenWhole result bytes.now }
 {
     let mut done = 0usize;
     let mut calls = MOST_CALLS;
     while done < bytes.len() {
         if calls == 0 {
-            return Output::Failed;
+            return Output::Failed(Error::from(ErrorKind::TimedOut));
         }
         calls -= 1;
-        let answer = libc::write(fd, &bytes[done..]);
-        match told(answer, &bytes[done..]) {
+        let answer = output.write(&bytes[done..]);
+        match told(clock, answer, &bytes[done..]) {
             Moved::Bytes(put) => {
                 done += put;
             }
             Moved::Nothing => {
-                return Output::Failed;
+                return Output::Failed(Error::from(ErrorKind::WriteZero));
             }
             Moved::Again => {}
-            Moved::Failed => {
-                return Output::Failed;
+            Moved::Failed(error) => {
+                return Output::Failed(error);
             }
         }
     }
     Output::Whole(done)
+}
+
+// Tells on standard error, in one line, what failed, and why, in the system's words. Where there is no memory for them, their number stands behind.
+pub fn tell<R: Eprint + Alloc>(rt: &R, what: &str, error: Error) {
+    let _told = match format!(in rt.alloc(); "{error}") {
+        Ok(text) => {
+            let words = without_number(text.as_str());
+            eprintln!(rt; "{what}: {words}")
+        }
+        Err(_) => eprintln!(rt; "{what}: {error}"),
+    };
+}
+
+// The words of a failure, without the number that std puts behind what the system says.
+fn without_number(text: &str) -> &str
+    ensures { StartsWith text.now result.now }
+{
+    match text.split_once(" (os error ") {
+        Some((words, _)) => words,
+        None => text,
+    }
 }

@@ -1,5 +1,7 @@
 // The checks of the direct call's inputs, in the papers' order: 1 to 3, the sizes; 4, the counts; 5, the lengths; 6, the marks. And the
 // masks that its marks make.
+#![tactic(auto)]
+
 ghost use Rattle.std.specs.Prelude.{ℕ, ◌+◌, ◌*◌, ◌≤◌, ◌<◌, ◌≡◌, length, get_or};
 ghost use Rattle.limits.specs.Limits.{max_views, max_cameras};
 ghost use Rattle.inputs.specs.Inner.Finding.{found_of};
@@ -10,14 +12,14 @@ use limits::{CHAIN_BYTES, MAX_CAMERAS, MAX_VIEWS, POSE_FLOATS};
 use refusal::Refusal;
 
 // What a search for a number finds.
-#[derive(Drop)]
+#[derive(Clone, Copy)]
 pub enum Found {
     At(u32),
     Nothing,
 }
 
 // What a check finds.
-#[derive(Drop)]
+#[derive(Clone, Copy)]
 pub enum Checked {
     Refused(Refusal),
     Passed,

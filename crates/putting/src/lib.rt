@@ -1,4 +1,6 @@
 // Bytes put into lent memory at a place; each function answers the place behind what it put. Both ask for the room: their callers have looked.
+#![tactic(auto)]
+
 ghost use Rattle.std.specs.Prelude.{◌+◌, ◌≤◌, ◌<◌, [], ◌∷◌, length};
 ghost use Rattle.putting.specs.Inner.Putting.{Put};
 

@@ -1,8 +1,10 @@
 // What every entry refuses with: one case for each number of the papers' table, and what each names.
+#![tactic(auto)]
+
 ghost use Rattle.std.specs.Prelude.{◌≡◌};
 ghost use Rattle.refusal.specs.Table.{number_of, detail_of};
 
-#[derive(Drop)]
+#[derive(Clone, Copy)]
 pub enum Refusal {
     // No views, no cameras in view 0, or an empty list of poses.
     InsufficientData,

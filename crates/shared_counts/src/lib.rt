@@ -1,5 +1,7 @@
 // The summary of shared counts: for each two cameras, how many views hold poses of both; for a camera with itself, how many hold one of it. It is kept
 // up with work for one camera's row and column, and checked against the masks. Rests on the views that two masks share.
+#![tactic(auto)]
+
 ghost use Rattle.std.specs.Prelude.{◌-◌, ◌^◌, ◌<◌, ◌≡◌, true, length, get_or, set};
 ghost use Rattle.limits.specs.Limits.{max_views, max_cameras};
 ghost use Rattle.lists.specs.Masks.{in_mask};
@@ -60,8 +62,8 @@ pub fn add_view(
     camera: usize,
     view: u8,
 )
-    requires camera_lt_max_cameras { (camera < max_cameras) × (view < max_views) × (in_mask (get_or masks.now camera 0) view ≡ true) }
-    requires shared_value { shared.old ≡ summary_of (set masks.now camera (get_or masks.now camera 0 - 2 ^ view)) }
+    requires view_held { (camera < max_cameras) × (view < max_views) × (in_mask (get_or masks.now camera 0) view ≡ true) }
+    requires summed_without_view { shared.old ≡ summary_of (set masks.now camera (get_or masks.now camera 0 - 2 ^ view)) }
     ensures { shared.new ≡ summary_of masks.now }
 {
     count_view(masks, shared, camera, view, 1);
@@ -74,8 +76,8 @@ pub fn remove_view(
     camera: usize,
     view: u8,
 )
-    requires camera_lt_max_cameras { (camera < max_cameras) × (view < max_views) × (in_mask (get_or masks.now camera 0) view ≡ true) }
-    requires shared_value { shared.old ≡ summary_of masks.now }
+    requires view_held { (camera < max_cameras) × (view < max_views) × (in_mask (get_or masks.now camera 0) view ≡ true) }
+    requires summed_with_view { shared.old ≡ summary_of masks.now }
     ensures { shared.new ≡ summary_of (set masks.now camera (get_or masks.now camera 0 - 2 ^ view)) }
 {
     count_view(masks, shared, camera, view, 255);
