@@ -1,4 +1,4 @@
-/* The rig placer for C: the exports of libplacer.a, which `rt staticlib placer` makes for x86-64 Linux. It calls
+/* The rig placer for C: the exports of libplacer.a, which `sh tests/library.sh placer` makes for x86-64 Linux. It calls
  * nothing but memcpy.
  *
  * A slice passes as a pointer and a length, the length in elements and not in bytes. Where the length is 0 the pointer is not followed, and

@@ -4,13 +4,7 @@
 # commands. Proves and builds both first, unless they are there and newer than every source.
 set -eu
 cd "$(dirname "$0")/.."
-mkdir -p target
-for program in rig frames; do
-  if [ ! -x target/bin/$program ] || [ -n "$(find crates.txt crates -type f \( -name crates.txt -o -name '*.rt' -o -name '*.antt' \) -newer target/bin/$program | head -n 1)" ]; then
-    echo "proving and building $program and what it rests on: from nothing that takes some minutes" >&2
-    rt check $program >target/$program.log 2>&1 || { tail -n 20 target/$program.log >&2; exit 1; }
-  fi
-done
+sh tests/program.sh rig frames
 for name in listing five_cameras bumped pairs refused; do
   echo "== samples/$name.stream"
   target/bin/rig <samples/$name.stream

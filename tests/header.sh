@@ -46,7 +46,7 @@ same numbers "placer.h"
 floats=$(constant POSE_FLOATS)
 # `record` is a word of the logic, which no parameter of the sources can have for a name.
 declared() { cat "$@" | tr -s ' \n' ' ' | grep -o 'pub extern "C" fn [a-z_]*([^)]*) -> [a-z0-9]*' | sed -E 's/pub extern "C" fn ([a-z_]*)\( ?([^)]*[^ ,]),? ?\)/\1(\2)/; s/^placer_shared\(session/placer_shared(record/' | sort; }
-declared crates/placer/src/lib.rt | sed -E \
+declared crates/placer_c/src/lib.rt | sed -E \
     -e 's/f64/double/g; s/u64/uint64_t/g; s/u32/uint32_t/g; s/u8/uint8_t/g; s/usize/size_t/g; s/Pose\]/struct rig_pose]/g' \
     -e 's/(.*) -> (.*)/\2 \1;/' \
     -e "s/([a-z_]+): &mut \[([a-z0-9_ ]+); POSE_FLOATS\]/\2 \1[$floats]/g" \
@@ -58,7 +58,7 @@ echo '#include "placer.h"' | "$cc" -std=c11 -E -P -I "$include" -x c - | tr -s '
 grep -oE '[a-z0-9_]+ (placer|rig)_[a-z_]+\([^)]*\);' "$work/expanded" | sort >"$work/header-parameters"
 same parameters "placer.h"
 
-declared crates/placer/src/lib.rt | sed -E \
+declared crates/placer_c/src/lib.rt | sed -E \
     -e 's/([a-z_]+): &mut \[([a-z0-9]+)\]/\1: *mut \2, \1_len: usize/g' \
     -e 's/([a-z_]+): &\[([A-Za-z0-9]+)\]/\1: *const \2, \1_len: usize/g' \
     -e 's/: &mut /: *mut /g' >"$work/source-declarations"

@@ -6,10 +6,7 @@
 set -eu
 root=$(cd "$(dirname "$0")/.." && pwd)
 cd "$root"
-mkdir -p target
-if [ ! -x target/bin/rig ] || [ -n "$(find crates.txt crates -type f \( -name crates.txt -o -name '*.rt' -o -name '*.antt' \) -newer target/bin/rig | head -n 1)" ]; then
-  rt check rig >target/rig.log 2>&1 || { tail -n 20 target/rig.log >&2; exit 1; }
-fi
+sh tests/program.sh rig
 work=$(mktemp -d)
 trap 'rm -rf "$work"' EXIT
 

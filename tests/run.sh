@@ -1,19 +1,19 @@
 #!/usr/bin/env bash
-# The tests. First what takes a second: the layout, and the reader's map, docs/STATEMENTS.md, against the crates. Then rt ci, which proves every
-# crate from nothing, tries every must-fail edit and runs every program; every edit must be refused because a fact fails. Then, over the target/ that rt ci
-# leaves: the programs, run; the slips that the exact rows notice, where python3 is at hand; what cargo builds, where it is at hand; and the rows and the comparison
+# The tests. First what takes a second: the reader's map, docs/STATEMENTS.md, against the crates. Then rt ci, which proves every
+# crate from nothing, tries every must-fail edit and runs every program; every edit must be refused because a fact fails, and none be bad. Then, over what rt ci
+# leaves in out/: the programs, run; the slips that the exact rows notice, where python3 is at hand; what cargo builds, where it is at hand; and the rows and the comparison
 # with the Rust, where its source is, which is looked for in $RUST_SOURCE, or beside the repository in ../shared/docs/src. rt ci's verdict is held back, and is the last line only if all the rest passed.
 set -euo pipefail
 cd "$(dirname "$0")/.."
 log=$(mktemp)
 trap 'rm -f "$log"' EXIT
 
-rt fmt --check
 sh tests/statements.sh
 
-# rt ci removes target/, so that its log stands outside.
 rt ci 2>&1 | tee "$log" | sed -u '/^[0-9]* passed, [0-9]* failed$/d' || { grep 'passed, [1-9][0-9]* failed$' "$log" || echo "tests: rt ci failed"; exit 1; }
 verdict=$(tail -n 1 "$log")
+if grep -qE '^rt: ok.*, [0-9]+ bad' "$log"; then echo "tests: must-fail edits are bad"; exit 1; fi
+mkdir -p target
 sh tests/edits.sh "$log"
 
 if command -v python3 >/dev/null 2>&1; then

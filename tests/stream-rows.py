@@ -2,7 +2,7 @@
 """Runs the rows of crates/claims_rows/specs/Rows.antt: each row's stream through the program, and each row and call through the reading of
 the papers in samples/oracle.py, against the text that the row says; and those of crates/claims_summary_rows/specs/Rows.antt, records, summaries and queries,
 through the reading. Rows from other states than a fresh session cannot be run through the
-program, which always begins with one. Needs target/bin/rig, which `rt check rig` makes.
+program, which always begins with one. Needs target/bin/rig, which tests/program.sh makes.
 """
 
 import os

@@ -1,4 +1,4 @@
-//! Tells the linker where libplacer.a is: in the folder that PLACER_LIB names, or where `rt staticlib placer` writes it.
+//! Tells the linker where libplacer.a is: in the folder that PLACER_LIB names, or where tests/library.sh writes it.
 use std::{env, path::PathBuf};
 
 fn main() {
@@ -10,7 +10,7 @@ fn main() {
     let archive = folder.join("libplacer.a");
     println!("cargo:rerun-if-changed={}", archive.display());
     if !archive.is_file() {
-        panic!("no libplacer.a in {}: run `rt staticlib placer`, or set PLACER_LIB", folder.display());
+        panic!("no libplacer.a in {}: run `sh tests/library.sh placer`, or set PLACER_LIB", folder.display());
     }
     println!("cargo:rustc-link-search=native={}", folder.display());
     println!("cargo:rustc-link-lib=static=placer");

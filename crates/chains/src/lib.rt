@@ -16,7 +16,7 @@ use limits::MAX_CAMERAS;
 pub const NOT_PLACED: u8 = 255;
 
 // The parent and the number of links of each camera.
-#[derive(Drop)]
+#[derive(Clone, Copy)]
 pub struct Tree {
     pub parent: [u8; MAX_CAMERAS],
     pub links: [u8; MAX_CAMERAS],

@@ -1,16 +1,18 @@
-// The static library: what C and Rust call. Each export but the root answers a number below 2^32, or what it refuses as number times 2^32 plus detail, and a
+// What C and Rust call, by the exports of `placer_c`. Each function but the root answers a number below 2^32, or what it refuses as number times 2^32 plus detail, and a
 // refusal writes nothing but `next`. No export asks anything of its caller but that the slices are real. include/placer.h is the C header.
+#![tactic(auto)]
+
 ghost use Rattle.std.specs.Prelude.{◌≡◌};
 ghost use Rattle.root.specs.Root.{root_of, IsRootOf};
 ghost use Rattle.placer.specs.Exports.{AveragedInto, Estimated, shared_reply, ImportedInto};
 ghost use Rattle.placer.specs.Step.{Stepped};
 
+mod averages;
 pub mod code;
-mod mean;
 mod record;
 
+use crate::averages::answer_list;
 use crate::code::{imported_code, outcome_code, refusal_code, reply_code, shared_code};
-use crate::mean::answer_list;
 use crate::record::{keep_record, not_a_record};
 use arithmetic::pose::Pose;
 use averaging::list::read_poses;
@@ -24,8 +26,7 @@ use shared_query::shared_views;
 use telemetry::import_frames;
 
 // The square root of IEEE 754, for every double.
-#[unsafe(no_mangle)]
-pub extern "C" fn placer_sqrt(x: f64) -> f64
+pub fn placer_sqrt(x: f64) -> f64
     ensures { (result ≡ root_of x) × IsRootOf x result }
 {
     sqrt(x)
@@ -33,16 +34,14 @@ pub extern "C" fn placer_sqrt(x: f64) -> f64
 
 // The average of pose records, its seven numbers into `mean`. Refuses 1, 2 and 7. For C and Rust the lent list is a pointer to the first
 // record and a count, and `mean` a pointer to seven doubles.
-#[unsafe(no_mangle)]
-pub extern "C" fn rig_average_isometries(poses: &[Pose], mean: &mut [f64; POSE_FLOATS]) -> u64
+pub fn rig_average_isometries(poses: &[Pose], mean: &mut [f64; POSE_FLOATS]) -> u64
     ensures { AveragedInto poses.now mean.old result mean.new }
 {
     answer_list(read_poses(poses), mean)
 }
 
 // The direct call. Refuses 1 to 9.
-#[unsafe(no_mangle)]
-pub extern "C" fn placer_estimate(
+pub fn placer_estimate(
     counts: &[u32],
     marks: &[u8],
     floats: &[f64],
@@ -61,8 +60,7 @@ pub extern "C" fn placer_estimate(
 // cameras, the reference and the summary, all 0 in a fresh session; and `next` is set to where the next command begins. The record is written where Size,
 // Pose or Withdraw is accepted, and nowhere else. Answers 0 at the end of the stream, 1 for a command accepted and 2 for a rig solved. Refuses what
 // the session refuses, and words that are no record with 5.
-#[unsafe(no_mangle)]
-pub extern "C" fn placer_step(
+pub fn placer_step(
     session: &mut [u64],
     stream: &[u8],
     at: usize,
@@ -87,8 +85,7 @@ pub extern "C" fn placer_step(
 
 // How many views hold poses of both cameras, by a session record's words; nothing is written. Refuses 5, 21 and 12, and words that are no
 // record with 5.
-#[unsafe(no_mangle)]
-pub extern "C" fn placer_shared(session: &[u64], first: u8, second: u8) -> u64
+pub fn placer_shared(session: &[u64], first: u8, second: u8) -> u64
     ensures { result ≡ shared_reply session.now first second }
 {
     if !is_record(session) {
@@ -98,8 +95,7 @@ pub extern "C" fn placer_shared(session: &[u64], first: u8, second: u8) -> u64
 }
 
 // Packed telemetry frames as Pose commands, in their order, into lent bytes, 59 a frame. Answers how many frames there were. Refuses 14, 15 and 5.
-#[unsafe(no_mangle)]
-pub extern "C" fn placer_frames(frames: &[u8], commands: &mut [u8]) -> u64
+pub fn placer_frames(frames: &[u8], commands: &mut [u8]) -> u64
     ensures { ImportedInto frames.now commands.old result commands.new }
 {
     imported_code(import_frames(frames, commands))

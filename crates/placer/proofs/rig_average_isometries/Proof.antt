@@ -51,9 +51,9 @@ use Rattle.averaging.proofs.list.read_poses.Symbol as read-def
 use Rattle.averaging.proofs.list.read_poses.Symbol.{name as #read-poses}
 use Rattle.averaging.proofs.list.read_poses.Met as read-thm
 use Rattle.placer.specs.contracts.mean.answer_list as answer
-use Rattle.placer.proofs.mean.answer_list.Symbol as answer-def
-use Rattle.placer.proofs.mean.answer_list.Symbol.{name as #answer-list}
-use Rattle.placer.proofs.mean.answer_list.Met as answer-thm
+use Rattle.placer.proofs.averages.answer_list.Symbol as answer-def
+use Rattle.placer.proofs.averages.answer_list.Symbol.{name as #answer-list}
+use Rattle.placer.proofs.averages.answer_list.Met as answer-thm
 use Rattle.placer.specs.contracts.rig_average_isometries.Key.{name as #rig-average-isometries}
 use Rattle.placer.specs.contracts.rig_average_isometries as entry
 use Rattle.placer.proofs.rig_average_isometries.Statement as stated

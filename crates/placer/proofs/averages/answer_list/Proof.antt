@@ -3,8 +3,8 @@ use mathlib.Core.Path.{sym, ◌∙◌}
 use Rattle.placer.specs.Code.{code_of_averaged}
 use Rattle.placer.specs.Exports.{mean_after}
 use borrow.Author.Rules.{rules}
-use Rattle.placer.proofs.mean.answer_list.Statement.{statement}
-use Rattle.placer.proofs.mean.answer_list.Tie as tie
+use Rattle.placer.proofs.averages.answer_list.Statement.{statement}
+use Rattle.placer.proofs.averages.answer_list.Tie as tie
 
 returns : tie.Need-returns
 unfolding code_of_averaged mean_after
