@@ -48,8 +48,8 @@ infinity = of_bits binary64 0x7ff0_0000_0000_0000
 abbrev below_all : Float
 below_all = of_bits binary64 0xfff0_0000_0000_0000
 
-abbrev not_anumber : Float
-not_anumber = of_bits binary64 0x7ff8_0000_0000_0000
+abbrev not_a_number : Float
+not_a_number = of_bits binary64 0x7ff8_0000_0000_0000
 
 -- A finite pose; poses with one number that is not, in w, in x and in j.
 abbrev good : Pose
@@ -62,7 +62,7 @@ abbrev bad_first : Pose
 bad_first = pose (vec3 below_all nought nought) (quaternion nought nought nought one)
 
 abbrev bad_within : Pose
-bad_within = pose (vec3 nought nought nought) (quaternion nought not_anumber nought one)
+bad_within = pose (vec3 nought nought nought) (quaternion nought not_a_number nought one)
 
 -- ---- the rows
 

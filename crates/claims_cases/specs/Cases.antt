@@ -215,8 +215,8 @@ cell_of a = replicate 7 a
 abbrev infinity : Float
 infinity = of_bits binary64 0x7ff0_0000_0000_0000
 
-abbrev not_anumber : Float
-not_anumber = of_bits binary64 0x7ff8_0000_0000_0000
+abbrev not_a_number : Float
+not_a_number = of_bits binary64 0x7ff8_0000_0000_0000
 
 -- 6: "a mark above 1; detail is the lowest such cell."
 unfoldable pub lowest_of_marks : Row
@@ -236,13 +236,13 @@ mark_before_pose = row (answer_of ((1 ∷ 2 ∷ []) ∷ []) (cell_of infinity ++
 -- 7: "a non-finite number in a held or offered pose; detail is the lowest such cell."
 unfoldable pub lowest_of_poses : Row
 unfolding answer_of
-lowest_of_poses = row (answer_of ((1 ∷ 1 ∷ 1 ∷ []) ∷ []) (cell_of Zero ++ cell_of infinity ++ cell_of not_anumber) 0) (7 ∷ 1 ∷ [])
+lowest_of_poses = row (answer_of ((1 ∷ 1 ∷ 1 ∷ []) ∷ []) (cell_of Zero ++ cell_of infinity ++ cell_of not_a_number) 0) (7 ∷ 1 ∷ [])
 
 -- "The numbers of an empty cell are ignored." View 1 holds camera 0 and not camera 1, whose cell is of NaNs: solved.
 unfoldable pub empty_cell_ignored : Row
 unfolding answer_of
 empty_cell_ignored =
-    row (answer_of ((1 ∷ 1 ∷ []) ∷ (1 ∷ 0 ∷ []) ∷ []) (cell_of Zero ++ cell_of Zero ++ cell_of Zero ++ cell_of not_anumber) 0) (0 ∷ 0 ∷ [])
+    row (answer_of ((1 ∷ 1 ∷ []) ∷ (1 ∷ 0 ∷ []) ∷ []) (cell_of Zero ++ cell_of Zero ++ cell_of Zero ++ cell_of not_a_number) 0) (0 ∷ 0 ∷ [])
 
 -- 7 before 8: camera 1 has no chain, and cell 0 holds an infinity; with zeros there it is 8.
 unfoldable pub pose_before_unreached : Row

@@ -117,8 +117,8 @@ infinity = 0 ∷ 0 ∷ 0 ∷ 0 ∷ 0 ∷ 0 ∷ 240 ∷ 127 ∷ []
 abbrev below_all : List ℕ
 below_all = 0 ∷ 0 ∷ 0 ∷ 0 ∷ 0 ∷ 0 ∷ 240 ∷ 255 ∷ []
 
-abbrev not_anumber : List ℕ
-not_anumber = 0 ∷ 0 ∷ 0 ∷ 0 ∷ 0 ∷ 0 ∷ 248 ∷ 127 ∷ []
+abbrev not_a_number : List ℕ
+not_a_number = 0 ∷ 0 ∷ 0 ∷ 0 ∷ 0 ∷ 0 ∷ 248 ∷ 127 ∷ []
 
 -- NaNs of other bits: the one that 0/0 gives on x86-64, the least, and all bits set.
 abbrev negative_na_n : List ℕ
@@ -220,11 +220,11 @@ poses_in_order =
     ∷ prints (shift 0 3 one nought nought) ("no 12 3" ∷ [])
     ∷ prints (shift 255 255 one nought nought) ("no 12 65535" ∷ [])
     ∷ prints (sevenfold 2 1 infinity) ("no 12 513" ∷ [])
-    ∷ prints (sevenfold 1 3 not_anumber) ("no 12 259" ∷ [])
+    ∷ prints (sevenfold 1 3 not_a_number) ("no 12 259" ∷ [])
     ∷ prints (sevenfold 1 2 infinity) ("no 7 5" ∷ [])
     ∷ prints (shift 1 2 one nought nought) []
     ∷ prints (shift 1 2 one nought nought) ("no 23 258" ∷ [])
-    ∷ prints (sevenfold 1 2 not_anumber) ("no 23 258" ∷ [])
+    ∷ prints (sevenfold 1 2 not_a_number) ("no 23 258" ∷ [])
     ∷ prints (sevenfold 1 0 below_all) ("no 7 3" ∷ [])
     ∷ prints (shift 1 0 one nought nought) []
     ∷ prints (sevenfold 1 0 infinity) ("no 23 256" ∷ [])
@@ -330,10 +330,10 @@ each_number =
     (prints (size 1 2 0) []
     ∷ prints (pose 0 1 infinity nought nought nought nought nought nought) ("no 7 1" ∷ [])
     ∷ prints (pose 0 1 nought below_all nought nought nought nought nought) ("no 7 1" ∷ [])
-    ∷ prints (pose 0 1 nought nought not_anumber nought nought nought nought) ("no 7 1" ∷ [])
+    ∷ prints (pose 0 1 nought nought not_a_number nought nought nought nought) ("no 7 1" ∷ [])
     ∷ prints (pose 0 1 nought nought nought infinity nought nought nought) ("no 7 1" ∷ [])
     ∷ prints (pose 0 1 nought nought nought nought below_all nought nought) ("no 7 1" ∷ [])
-    ∷ prints (pose 0 1 nought nought nought nought nought not_anumber nought) ("no 7 1" ∷ [])
+    ∷ prints (pose 0 1 nought nought nought nought nought not_a_number nought) ("no 7 1" ∷ [])
     ∷ prints (pose 0 1 nought nought nought nought nought nought infinity) ("no 7 1" ∷ [])
     ∷ prints (pose 0 1 negative_na_n nought nought nought nought nought nought) ("no 7 1" ∷ [])
     ∷ prints (pose 0 1 nought least_na_n nought nought nought nought nought) ("no 7 1" ∷ [])

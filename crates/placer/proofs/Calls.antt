@@ -15,7 +15,7 @@ use Rattle.session.proofs.KeptSessions.{call_keeps_session}
 use Rattle.record_words.specs.Words.{words_of, session_in, is_record}
 use Rattle.record_words.proofs.Records.{is_record_words, words_of_session_in}
 use Rattle.placer.specs.Code.{code_of, code_of_reply}
-use Rattle.placer.specs.Step.{not_arecord, stepped, words_after, Stepped}
+use Rattle.placer.specs.Step.{not_a_record, stepped, words_after, Stepped}
 use Rattle.placer.specs.Reading.{CallReply, NoRecordReply}
 use Rattle.placer.proofs.Steps.{stepped-not, stepped-call}
 
@@ -44,7 +44,7 @@ module _ (words stream : List ℕ) (at : ℕ) (buffer first : List Float) (secon
   unfolding code_of_reply
   stepped_no_record e =
       let same = stepped-not words stream at buffer first second e in
-      let code : r ≡ code_of (not_arecord (length stream)) = step.reply ∙ ap (λ (x : Result). code_of_reply x.reply) same in
+      let code : r ≡ code_of (not_a_record (length stream)) = step.reply ∙ ap (λ (x : Result). code_of_reply x.reply) same in
       record {
         too_long = λ h. code ∙ ap (λ (b : Bool). code_of (cond b TooLong WrongLength)) (lt-ltb max_stream (length stream) h);
         any_other = λ h. code ∙ ap (λ (b : Bool). code_of (cond b TooLong WrongLength)) (le-ltb max_stream (length stream) h);

@@ -13,17 +13,17 @@ use Rattle.session.proofs.KeptSessions.{call_keeps_session}
 use Rattle.record_words.specs.Words.{words_of, session_in, is_record}
 use Rattle.record_words.proofs.Records.{is_record_words, words_of_session_in}
 use Rattle.placer.specs.Code.{code_of, code_of_reply}
-use Rattle.placer.specs.Step.{not_arecord, stepped, words_after, Stepped}
+use Rattle.placer.specs.Step.{not_a_record, stepped, words_after, Stepped}
 use Rattle.placer.specs.Inner.Records.{words_kept}
 use Rattle.placer.proofs.Records.{words_kept_words_of}
 
 module _ (words stream : List ℕ) (at : ℕ) (buffer first : List Float) (second : List ℕ) where
   pub stepped-not : is_record words ≡ false
-      → stepped words stream at buffer first second ≡ stopped (state (session_in words) buffer first second) stream (not_arecord (length stream))
+      → stepped words stream at buffer first second ≡ stopped (state (session_in words) buffer first second) stream (not_a_record (length stream))
   unfolding stepped
   stepped-not e = rw e
 
-  pub stepped-refused : is_record words ≡ false → {r : ℕ} → r ≡ code_of (not_arecord (length stream))
+  pub stepped-refused : is_record words ≡ false → {r : ℕ} → r ≡ code_of (not_a_record (length stream))
       → Stepped words stream at buffer first second r (length stream) words buffer first second
   unfolding words_after code_of_reply
   stepped-refused e {r} f =

@@ -9,15 +9,15 @@ use Rattle.record_words.specs.Words.{words_of, session_in, is_record}
 use Rattle.placer.specs.Code.{code_of_reply}
 
 -- Words that are no record are refused with 5, as a record that no accepted commands could leave; 13 "comes before 5".
-abbrev pub not_arecord : ℕ → Refusal
-not_arecord streamLength = cond (ltb max_stream streamLength) TooLong WrongLength
+abbrev pub not_a_record : ℕ → Refusal
+not_a_record streamLength = cond (ltb max_stream streamLength) TooLong WrongLength
 
 module _ (words stream : List ℕ) (at : ℕ) (buffer first : List Float) (second : List ℕ) where
   unfoldable pub stepped : Result
   unfolding is_record call
   stepped =
       let t = state (session_in words) buffer first second in
-      cond (is_record words) (call t stream at) (stopped t stream (not_arecord (length stream)))
+      cond (is_record words) (call t stream at) (stopped t stream (not_a_record (length stream)))
 
   unfoldable pub words_after : List ℕ
   unfolding is_record stepped

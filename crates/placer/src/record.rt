@@ -1,7 +1,7 @@
 // What is refused where words are no session record, and when the words of one are written.
 ghost use Rattle.std.specs.Prelude.{◌≡◌, length};
 ghost use Rattle.record_words.specs.Words.{record_words};
-ghost use Rattle.placer.specs.Step.{not_arecord};
+ghost use Rattle.placer.specs.Step.{not_a_record};
 ghost use Rattle.placer.specs.Inner.Records.{words_kept};
 
 use record_words::write_record;
@@ -12,7 +12,7 @@ use session_record::Session;
 
 // What is refused where the words are no record. 13 comes before 5.
 pub fn not_a_record(stream: usize) -> Refusal
-    ensures { result ≡ not_arecord stream }
+    ensures { result ≡ not_a_record stream }
 {
     if MAX_STREAM < stream {
         Refusal::TooLong
