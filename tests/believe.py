@@ -28,7 +28,7 @@ STATEMENTS = [
     ("what floats of empty cells can change", "claims_streams.Alike", "EachAlike AnswersAlike"),
     ("the same, of the whole-stream entry", "claims_printing.Printed", "PartsAlike"),
     ("a pose taken back", "claims_streams.TakenBack", "PoseThenWithdrawal TakenBack"),
-    ("what is printed", "claims_printing.Printed", "wholeOf fresh_state"),
+    ("what is printed", "claims_printing.Printed", "whole_of fresh_state"),
     ("the summary of shared counts", "claims_shared.Summaries", "Summarises holds_pose"),
     ("demand 1, the query", "claims_shared.Queries", "QueryDemand1"),
     ("the session without the summary", "claims_shared.Plain", "forgotten plain_answer plain_calls plain_lines"),
@@ -43,13 +43,13 @@ BESIDE = [
     ("averaging.Entry", "averaged_of"),
     ("chains.Layered", "Layered"),
     ("chains.Masks", "views_of_both shared_by"),
-    ("refusal.Table", "numberOf detail_of"),
+    ("refusal.Table", "number_of detail_of"),
     ("extrinsics.Direct", "Direct"),
     ("placing.Estimate", "rig_se3_cam rig_se3_target target_candidates"),
     ("inputs.Inputs", "checked_of"),
     ("command.Framing", "FramesEnd Follow SomeByte frames_from"),
     ("command.Command", "commands_at Bytes"),
-    ("command.Writing", "bytesOf OfDoubles OfBytes"),
+    ("command.Writing", "bytes_of OfDoubles OfBytes"),
     ("telemetry.Frames", "imported_of import_leaves RefusedAlike max_bytes kept_length"),
     ("shared_query.Query", "shared_answer"),
     ("session.Call", "Called"),
@@ -59,6 +59,7 @@ BESIDE = [
     ("claims_exports.Steps", "Steps fresh_words"),
     ("claims_exports.SharedReplies", "SharedReplies LeftBySteps"),
     ("claims_exports.FramesReplies", "FramesReplies"),
+    ("claims_exports.InHand", "Bytes"),
     ("listing.Listing", "written listing_bytes"),
     ("listing.Writing", "Front"),
     ("stream_text.StreamText", "ObeyedInto"),
@@ -74,10 +75,10 @@ BESIDE = [
 # Rows are what definitions are checked against, and crates of tests are nobody's promise.
 CHECKS = re.compile(r"^(test_|claims_cases/|claims_rows/|claims_summary_rows/)|/Rows\.antt$|/Lib\.antt$|/Inner\.antt$")
 
-USE = re.compile(r"^(?:pub )?use Rattle·([a-z_0-9]+?)(?:·specs)?\.specs\.([A-Za-z0-9_.-]+?)\.\{([^}]*)\}", re.M)
+USE = re.compile(r"^(?:pub )?use Rattle\.([a-z_0-9]+?)\.specs\.([A-Za-z0-9_.-]+?)\.\{([^}]*)\}", re.M)
 START = re.compile(r"^\s*(?:(?:abbrev|unfoldable|pub) )*(?:(record|data) )?([^\s(){}:]+)(?: [^=]*?)? : ")
 WORD = re.compile(r"[^\s(){},;.λ]+")
-BOUND = ("_>>=_", "_>>_")  # what a `do` block stands for
+BOUND = ("◌>>=◌", "◌>>◌")  # what a `do` block stands for
 
 
 class Definition:
@@ -159,7 +160,7 @@ def rests_on(definition, found):
         return
     found.add(definition)
     for word in sorted(set(WORD.findall("\n".join(definition.around + tuple(definition.lines))))):
-        for name in BOUND if word == "do" else (word, f"_{word}_"):
+        for name in BOUND if word == "do" else (word, f"◌{word}◌"):
             below = definition.file.named(name)
             if below is not None:
                 rests_on(below, found)
