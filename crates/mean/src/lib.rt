@@ -1,5 +1,7 @@
 // The average of poses, one pose at a time: translations and rotations are summed as they come, and the sums become the
 // average at the end. So no list of candidates is kept.
+#![tactic(auto)]
+
 ghost use Rattle.std.specs.Prelude.{◌≡◌, []};
 ghost use Rattle.mean.specs.Average.{sign, plus_translation, plus_rotation, over_vec, over_quat, normalize, mean_rotation, mean_of};
 ghost use Rattle.mean.specs.Inner.Taking.{taken, first_of, plus_pose};
@@ -8,7 +10,7 @@ use arithmetic::pose::{Pose, Quaternion, Vec3};
 use root::sqrt;
 
 // The sums of the poses taken so far, how many there were, and the first one's rotation.
-#[derive(Drop)]
+#[derive(Clone, Copy)]
 pub struct Average {
     pub first: Quaternion,
     pub translations: Vec3,

@@ -1,4 +1,6 @@
 // A session record as words, for C: a mask for each camera, then the views, the cameras and the reference, then the entries of the summary.
+#![tactic(auto)]
+
 ghost use Rattle.std.specs.Prelude.{◌≡◌, length};
 ghost use Rattle.lists.specs.Finding.{all_below};
 ghost use Rattle.shared_counts.specs.Summary.{entry_count};

@@ -1,4 +1,6 @@
 // The session record: how it begins, what it is without its summary, and which records accepted commands can leave.
+#![tactic(auto)]
+
 ghost use Rattle.std.specs.Prelude.{◌≡◌};
 ghost use Rattle.session_record.specs.Session.{fresh, held_of, session_of};
 
@@ -13,7 +15,7 @@ pub const BUFFER_FLOATS: usize = POSE_FLOATS * (MAX_VIEWS * MAX_CAMERAS);
 
 // Bit v of a camera's mask is set when view v holds a pose of that camera, and `shared` is the summary of the masks: at 16 × a + b, how many views hold poses
 // of both cameras a and b. A fresh session is all zeros: no sizes, no poses.
-#[derive(Drop)]
+#[derive(Clone, Copy)]
 pub struct Session {
     pub masks: [u64; MAX_CAMERAS],
     pub views: u8,
@@ -23,7 +25,7 @@ pub struct Session {
 }
 
 // The record without its summary, which no answer goes by. Commands hand this on, and change the summary where it stands.
-#[derive(Drop)]
+#[derive(Clone, Copy)]
 pub struct Held {
     pub masks: [u64; MAX_CAMERAS],
     pub views: u8,

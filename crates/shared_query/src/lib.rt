@@ -1,4 +1,6 @@
 // The query for shared counts: how many views hold poses of both cameras, by a session's summary. It changes nothing.
+#![tactic(auto)]
+
 ghost use Rattle.std.specs.Prelude.{◌≡◌};
 ghost use Rattle.inputs.specs.Inputs.{checked_of};
 ghost use Rattle.shared_query.specs.Query.{query_refusal, shared_answer};
@@ -10,7 +12,7 @@ use session_record::Session;
 use session_record::check::is_possible;
 
 // What the query answers.
-#[derive(Drop)]
+#[derive(Clone, Copy)]
 pub enum Shared {
     Refused(Refusal),
     Count(u32),

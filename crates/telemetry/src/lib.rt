@@ -1,4 +1,6 @@
 // Packed telemetry frames turned into Pose commands, which are put into lent bytes, or why they are not.
+#![tactic(auto)]
+
 ghost use Rattle.std.specs.Prelude.{◌+◌, ◌*◌, ◌≤◌, ◌<◌, ◌≡◌, true, length};
 ghost use Rattle.arithmetic.specs.Pose.{finite_pose};
 ghost use Rattle.command.specs.Command.{pose_width};
