@@ -1,4 +1,6 @@
 // The lines that `rig` prints, and the line of a refusal, which `frames` tells too, made as bytes in lent memory. specs/Listing.antt says which bytes.
+#![tactic(auto)]
+
 ghost use Rattle.std.specs.Prelude.{◌≡◌, cond, [], length, leb};
 ghost use Rattle.session_commands.specs.declared.Reply.TheVariants.{Solved};
 ghost use Rattle.listing.specs.Listing.{refusal_line, listing_bytes, sized, written};

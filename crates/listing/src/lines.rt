@@ -60,8 +60,8 @@ fn put_view(out: &mut [u8], at: usize, index: u8, pose: Pose) -> usize
 }
 
 fn put_cameras(out: &mut [u8], at: usize, cameras: u8, transforms: &[f64], chains: &[u8]) -> usize
-    requires cameras_in_bounds { at + camera_bytes pose_floats * cameras ≤ length out.old }
-    requires cameras_in_bounds_2 { (pose_floats * cameras ≤ length transforms.now) × (second_needs cameras ≤ length chains.now) }
+    requires has_room { at + camera_bytes pose_floats * cameras ≤ length out.old }
+    requires answers_hold { (pose_floats * cameras ≤ length transforms.now) × (second_needs cameras ≤ length chains.now) }
     ensures put { Put out.old at (gather cameras (camera_line_at pose_fields transforms.now chains.now)) out.new result }
     ensures upper_bound { result ≤ at + camera_bytes pose_floats * cameras }
 {
@@ -84,8 +84,8 @@ fn put_cameras(out: &mut [u8], at: usize, cameras: u8, transforms: &[f64], chain
 }
 
 fn put_views(out: &mut [u8], at: usize, cameras: u8, views: u8, transforms: &[f64]) -> usize
-    requires views_in_bounds { at + view_bytes pose_floats * views ≤ length out.old }
-    requires views_in_bounds_2 { first_needs cameras views ≤ length transforms.now }
+    requires has_room { at + view_bytes pose_floats * views ≤ length out.old }
+    requires answer_holds { first_needs cameras views ≤ length transforms.now }
     ensures { Put out.old at (gather views (view_line_at pose_fields transforms.now cameras)) out.new result }
 {
     let mut next = at;
@@ -99,8 +99,8 @@ fn put_views(out: &mut [u8], at: usize, cameras: u8, views: u8, transforms: &[f6
 }
 
 pub(crate) fn put_solved(out: &mut [u8], held: Held, transforms: &[f64], chains: &[u8]) -> usize
-    requires cameras_le_max_cameras { (held.cameras ≤ max_cameras) × (held.views ≤ max_views) × (listing_bytes ≤ length out.old) }
-    requires views_in_bounds { (first_needs held.cameras held.views ≤ length transforms.now) × (second_needs held.cameras ≤ length chains.now) }
+    requires within_limits { (held.cameras ≤ max_cameras) × (held.views ≤ max_views) × (listing_bytes ≤ length out.old) }
+    requires answers_hold { (first_needs held.cameras held.views ≤ length transforms.now) × (second_needs held.cameras ≤ length chains.now) }
     ensures { Put out.old 0 (solved_text pose_fields held transforms.now chains.now) out.new result }
 {
     let cameras = held.cameras;

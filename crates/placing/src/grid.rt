@@ -15,7 +15,7 @@ pub enum Cell {
 
 // Bit v of a camera's mask is set when view v holds a pose of that camera. The pose of camera c in view v is number
 // v * stride + c among the floats.
-#[derive(Drop)]
+#[derive(Clone, Copy)]
 pub struct Rig {
     pub masks: [u64; MAX_CAMERAS],
     pub views: usize,

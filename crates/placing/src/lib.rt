@@ -1,4 +1,6 @@
 // The poses of a rig over any tree of its cameras that comes down to the reference, and both answers of a solved rig.
+#![tactic(auto)]
+
 ghost use Rattle.std.specs.Prelude.{◌≤◌, length};
 ghost use Rattle.limits.specs.Limits.{first_needs, second_needs};
 ghost use Rattle.chains.specs.Inner.Trees.{parent_at, links_at};

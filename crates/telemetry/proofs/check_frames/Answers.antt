@@ -11,18 +11,13 @@ returns-then-frames-ne0 c = sym (ap checked_of (frames-broken c.args.frames c.ar
 
 pub returns-then-frames-gt-MAX_FRAMES : goal.returns-then-frames-gt-MAX_FRAMES
 unfolding checked_of
-returns-then-frames-gt-MAX_FRAMES c =
-    let a = c.args in
-    sym (ap checked_of (frames_many a.frames a.lent (omega arith) c.if-frames-gt-MAX_FRAMES.true))
+returns-then-frames-gt-MAX_FRAMES c = sym (ap checked_of (frames_many c.args.frames c.args.lent (omega arith) (omega arith)))
 
 pub returns-then-lent-frames : goal.returns-then-lent-frames
 unfolding checked_of
 returns-then-lent-frames c =
-    let a = c.args in
-    sym (ap checked_of (frames_wrong a.frames a.lent c.if-frames-ne0.false c.if-frames-gt-MAX_FRAMES.false c.if-lent-frames.true))
+    sym (ap checked_of (frames_wrong c.args.frames c.args.lent (omega arith) (omega arith) (λ e. omega arith)))
 
 pub returns : goal.returns
 unfolding checked_of
-returns c =
-    let a = c.args in
-    sym (ap checked_of (frames_pass a.frames a.lent c.if-frames-ne0.false c.if-frames-gt-MAX_FRAMES.false c.if-lent-frames.false))
+returns c = sym (ap checked_of (frames_pass c.args.frames c.args.lent (omega arith) (omega arith) (omega arith)))

@@ -1,0 +1,12 @@
+-- `listing::text::put_number` meets its contract: a number of 32 bits has at most ten digits. Assumes nothing.
+use native.Mathlib.Omega.{arith}
+use Rattle.listing.proofs.Digits.{length-decimal_text-le}
+use Rattle.listing.proofs.text.put_number.Goals as goal
+
+pub put_decimal-requires : goal.put_decimal-requires
+put_decimal-requires c = omega (arith, length-decimal_text-le 9 c.args.n (omega arith))
+
+pub returns : goal.returns
+returns c =
+    let called = c.put_decimal.ensures in
+    record { put = called; upper_bound = omega (arith, called.behind, length-decimal_text-le 9 c.args.n (omega arith)) }
