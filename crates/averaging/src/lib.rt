@@ -1,4 +1,6 @@
 // The public averaging entry: the average of a lent list of pose records, or why there is none.
+#![tactic(auto)]
+
 ghost use Rattle.std.specs.Prelude.{◌≡◌};
 ghost use Rattle.averaging.specs.Entry.{averaged_of};
 ghost use Rattle.averaging.specs.Inner.Gathered.{AnswersFor};
@@ -11,7 +13,7 @@ use inputs::Found;
 use refusal::Refusal;
 
 // What averaging answers.
-#[derive(Drop)]
+#[derive(Clone, Copy)]
 pub enum Averaged {
     Refused(Refusal),
     Mean(Pose),

@@ -11,7 +11,7 @@ use mean::Average;
 // The most poses that one average takes: one for each view of a rig.
 pub const MOST_POSES: usize = 64;
 
-#[derive(Drop)]
+#[derive(Clone, Copy)]
 pub struct Gathered {
     pub sum: Average,
     pub bad: Found,

@@ -1,5 +1,7 @@
 // The rig placer: from the poses that cameras saw over views to one pose for each camera and each view, or a refusal by number.
 // The names follow the Rust: `estimate_extrinsics_from_cam_target_poses`, `rig_se3_cam`, `rig_se3_target`.
+#![tactic(auto)]
+
 ghost use Rattle.std.specs.Prelude.{◌≤◌, length};
 ghost use Rattle.limits.specs.Limits.{first_needs, second_needs};
 ghost use Rattle.placing.specs.Rig.{rig_grid};

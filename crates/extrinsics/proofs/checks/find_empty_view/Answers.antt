@@ -1,0 +1,67 @@
+-- `find_empty_view` meets its contract: a view is empty where the union of the masks, `held`, has no bit for it. Assumes nothing.
+use Prim.Native.Nat.{ℕ, ◌/◌, ◌%◌, ◌^◌}
+use native.Mathlib.Omega.{arith}
+use mathlib.Core.Path.{◌≡◌, refl, sym, ap, ◌∙◌}
+use mathlib.Core.Logic.{◌↔◌}
+use mathlib.Core.Bool.{true, false, not}
+use mathlib.Core.List.{List}
+use borrow.Author.Tests.{eq-eqb, ne_eqb}
+use lib.Dec.{T}
+use lib.Ieee.{Float}
+use lib.Bits.{bit_and, and_mask}
+use Rattle.lists.specs.Masks.{in_mask}
+use Rattle.placing.specs.Rig.{rig_grid}
+use Rattle.lists.specs.Finding.{lowest}
+use Rattle.inputs.specs.Inner.Finding.{found_of}
+use Rattle.extrinsics.specs.Outcome.{is_empty_view, lowest_empty_view}
+use Rattle.placing.specs.declared.grid.Rig.{Rig}
+use Rattle.lists.proofs.Lowest.{lowest-none_more, lowest-first, lowest_agree}
+use Rattle.extrinsics.proofs.MaskUnion.{InOneOf}
+use Rattle.extrinsics.proofs.EmptyViews.{is_empty_view-not-in_mask}
+use Rattle.extrinsics.proofs.checks.find_empty_view.Goals as goal
+use Rattle.extrinsics.proofs.checks.find_empty_view.Invariants.{not_in}
+
+-- The lowest empty view by the union of the masks.
+lowest_empty_view-not_in : (r : Rig) (floats : List Float) (held : ℕ) → ((v : ℕ) → T (in_mask held v) ↔ InOneOf r.masks r.cameras v)
+    → lowest_empty_view (rig_grid r floats) ≡ lowest (not_in held) r.views
+unfolding lowest_empty_view rig_grid
+lowest_empty_view-not_in r floats held union =
+    lowest_agree (is_empty_view (rig_grid r floats)) (not_in held) r.views (λ v h. is_empty_view-not-in_mask r floats held v h (union v))
+
+-- The code's test of a bit.
+bit_clear : (mask v : ℕ) → bit_and (mask / 2 ^ v) 1 ≡ 0 → not_in mask v ≡ true
+unfolding in_mask
+bit_clear mask v e = ap not (ne_eqb (mask / 2 ^ v % 2) 1 (omega (arith, and_mask (mask / 2 ^ v) 1)))
+
+bit_set : (mask v : ℕ) → (bit_and (mask / 2 ^ v) 1 ≡ 0 → ⊥) → not_in mask v ≡ false
+unfolding in_mask
+bit_set mask v n =
+    let odd : mask / 2 ^ v % 2 ≡ 0 → ⊥ = λ z. n (and_mask (mask / 2 ^ v) 1 ∙ z) in
+    ap not (eq-eqb (mask / 2 ^ v % 2) 1 (omega arith))
+
+pub loop-view-init : goal.loop-view-init
+unfolding lowest
+loop-view-init c = (omega arith, refl)
+
+pub returns-then-held-view-eq0 : goal.returns-then-held-view-eq0
+unfolding found_of
+returns-then-held-view-eq0 c =
+    let h = c.held_views-held in
+    let a = c.args in
+    λ floats. sym (ap found_of (lowest_empty_view-not_in a.rig floats h.result h.ensures
+    ∙ lowest-first (not_in h.result) c.loop-view.view a.rig.views (omega arith) c.loop-view.invariant.1 (bit_clear h.result c.loop-view.view c.if-held-view-eq0.true)))
+
+pub loop-view-preserved : goal.loop-view-preserved
+loop-view-preserved c =
+    let h = c.held_views-held in (
+      omega arith,
+      lowest-none_more (not_in h.result) c.loop-view.view c.loop-view.invariant.1 (bit_set h.result c.loop-view.view c.if-held-view-eq0.false),
+    )
+
+pub returns : goal.returns
+unfolding found_of
+returns c =
+    let h = c.held_views-held in
+    let a = c.args in
+    let all : c.loop-view.view ≡ a.rig.views = omega arith in
+    λ floats. sym (ap found_of (lowest_empty_view-not_in a.rig floats h.result h.ensures ∙ (rw all at c.loop-view.invariant.1)))
