@@ -1,6 +1,6 @@
 -- The import of packed frames does what is demanded of it in words: `import_demand`. A word's count is the one that its bytes say (`signed_count`), so that the numbers of a frame are nearest
 -- and exact by `Nearest`; the command of frame k stands behind those before it (`gather-apart`), where it is read back (`parse_bytes_of`). Assumes nothing.
-use Prim.Native.Nat.{ℕ, zero, suc, ◌+◌, ◌-◌, ◌*◌, ◌/◌, ◌%◌, ◌^◌, ◌≤◌, ◌<◌}
+use Prim.Native.Nat.{ℕ, zero, suc, ◌+◌, ◌*◌, ◌/◌, ◌%◌, ◌^◌, ◌≤◌, ◌<◌}
 use native.Mathlib.Decide.{dec_lt}
 use native.Mathlib.Nat.{zero-add}
 use native.Mathlib.Omega.{arith}
@@ -247,7 +247,7 @@ module _ (bytes lent : List ℕ) where
         (frames_wrong (length bytes) (length lent) (whole-frames n e) (omega (arith, many_frames n e)) (λ f. h (f ∙ ap (λ (i : ℕ). 59 * i) (many_frames n e))));
     imported =
         λ small n e l f.
-        let passed = import_passed bytes lent (frames_pass (length bytes) (length lent) (whole-frames n e) (omega (arith, many_frames n e)) (f ∙ ap (λ (i : ℕ). 59 * i) (sym (many_frames n e)))) in
+        let passed = import_passed bytes lent (frames_pass (length bytes) (length lent) (whole-frames n e) (omega (arith, many_frames n e)) (omega (arith, many_frames n e, f))) in
         let same : import_leaves bytes lent ≡ gather n (block bytes) = passed.1 ∙ command_bytes_is bytes ∙ ap (λ (i : ℕ). gather i (block bytes)) (many_frames n e) in
         (passed.0 ∙ ap Frames (many_frames n e), subst (CommandsOfFrames bytes n) (sym same) (commands_of_frames bytes n small));
     unchanged = left_alone;

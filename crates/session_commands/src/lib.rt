@@ -1,5 +1,7 @@
 // What each command of a stream does, a file a command: what is held before it comes in, and a turn goes out.
 
+#![tactic(auto)]
+
 mod cell;
 pub mod pose;
 pub mod replies;

@@ -7,6 +7,7 @@ use Rattle.lists.specs.Masks.{in_mask}
 use Rattle.lists.specs.Finding.{lowest}
 use Rattle.extrinsics.proofs.checks.find_empty_view.Given as goal
 
+-- A view without a bit in the mask.
 abbrev pub not_in : ℕ → ℕ → Bool
 not_in mask v = not (in_mask mask v)
 

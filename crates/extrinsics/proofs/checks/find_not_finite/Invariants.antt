@@ -14,6 +14,7 @@ use Rattle.placing.specs.declared.grid.Cell.TheVariants.{Empty}
 use Rattle.placing.specs.declared.grid.Rig.{Rig}
 use Rattle.extrinsics.proofs.checks.find_not_finite.Given as goal
 
+-- Whether the cell at this place of the grid holds a number that is not finite.
 abbrev pub not_finite_in : Rig → List Float → ℕ → Bool
 not_finite_in r floats i = is_not_finite (get_or (rig_grid r floats).cells i Empty)
 

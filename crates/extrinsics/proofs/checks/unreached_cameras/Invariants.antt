@@ -10,6 +10,7 @@ use Rattle.lists.specs.Finding.{power_sum}
 use Rattle.chains.specs.declared.Tree.{Tree}
 use Rattle.extrinsics.proofs.checks.unreached_cameras.Given as goal
 
+-- Whether the tree has the byte for no place at this camera.
 abbrev pub no_place : Tree → ℕ → Bool
 no_place tree c = eqb (get_or tree.links c 0) not_placed_byte
 

@@ -3,14 +3,9 @@ use Prim.Native.Nat.{ℕ, ◌/◌, ◌^◌}
 use mathlib.Core.Path.{ap}
 use lib.Dec.{eqb}
 use lib.Bits.{and_mask}
-use borrow.Author.Rules.{rules}
 use Rattle.lists.specs.Masks.{in_mask}
-use Rattle.session_commands.proofs.cell.is_held.Statement.{statement}
-use Rattle.session_commands.proofs.cell.is_held.Tie as tie
+use Rattle.session_commands.proofs.cell.is_held.Goals as goal
 
-returns : tie.Need-returns
+pub returns : goal.returns
 unfolding in_mask
 returns c = let a = c.args in ap (λ (bit : ℕ). eqb bit 1) (and_mask (a.mask / 2 ^ a.view) 1)
-
-pub is-held-spec : {M : Type 1} → statement M
-is-held-spec = tie.close (tie.spec (λ c. search rules) returns)
