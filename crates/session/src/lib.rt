@@ -1,4 +1,7 @@
 // The session: poses arrive as commands in a stream of bytes, one command a call, and Solve answers as the direct call would.
+
+#![tactic(auto)]
+
 ghost use Rattle.std.specs.Prelude.{◌≡◌};
 ghost use Rattle.inputs.specs.Inputs.{checked_of};
 ghost use Rattle.session_commands.specs.Obeyed.{state};
