@@ -41,6 +41,7 @@ fn kept(count: usize) -> usize
 }
 
 // The lowest that holds a number that is not finite, when p in place i is looked at too.
+#[tactic(auto, unfolding(crate::specs::Inner::Gathered::marked))]
 fn mark(bad: Found, i: usize, p: Pose) -> Found
     requires { i < max_poses }
     ensures { result ≡ marked bad i p }

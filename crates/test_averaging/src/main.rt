@@ -1,11 +1,14 @@
 // The public averaging entry, run: arrays of pose records are lent to it, and what it answers is printed, a line for each list.
 // A refusal is `no`, its number and its detail; a mean is `ok`, and 1 where it is the one that is expected.
+#![tactic(auto)]
+
 ghost use Rattle.std.specs.Prelude.{◌≤◌, ◌≡◌, take};
 ghost use Rattle.averaging.specs.Entry.{averaged_of};
 
 use arithmetic::pose::{Pose, Quaternion, Vec3};
 use averaging::{Averaged, average_isometries};
 use refusal::Refusal;
+use std::io;
 
 // One record more than an average takes.
 const ROOM: usize = 65;
@@ -47,46 +50,36 @@ fn same(p: Pose, x: f64, w: f64) -> bool {
         & (q.w == w)
 }
 
-fn show_refusal(refusal: Refusal) {
-    let _no = io::write_all(1, b"no ");
-    let _number = io::print_decimal(1, refusal.number() as u64);
-    let _blank = io::write_all(1, b" ");
-    let _detail = io::print_decimal(1, refusal.detail() as u64);
-    let _end = io::write_all(1, b"\n");
+fn show_refusal(rt: &impl Print, refusal: Refusal) -> io::Result<()> {
+    println!(rt; "no {} {}", refusal.number(), refusal.detail())
 }
 
 // The answer, where a mean with that x and that w is expected.
-fn show(answer: Averaged, x: f64, w: f64) {
+fn show(rt: &impl Print, answer: Averaged, x: f64, w: f64) -> io::Result<()> {
     match answer {
-        Averaged::Refused(refusal) => {
-            show_refusal(refusal);
-        }
-        Averaged::Mean(p) => {
-            let _ok = io::write_all(1, b"ok ");
-            let _same = io::print_decimal(1, same(p, x, w) as u64);
-            let _end = io::write_all(1, b"\n");
-        }
+        Averaged::Refused(refusal) => show_refusal(rt, refusal),
+        Averaged::Mean(p) => println!(rt; "ok {}", same(p, x, w) as u64),
     }
 }
 
-fn main() {
+fn main(rt: HostRuntime) -> io::Result<()> {
     let mut poses = [pose(2.0, 1.0); ROOM];
     poses[0] = pose(1.0, 1.0);
     // The second rotation is the first one's opposite, and is turned over.
     poses[1] = pose(4.0, -1.0);
-    show(average_first(poses, 0), 0.0, 1.0);
-    show(average_first(poses, 1), 1.0, 1.0);
-    show(average_first(poses, 2), 2.5, 1.0);
-    show(average_first(poses, 64), 2.015625, 1.0);
-    show(average_first(poses, 65), 0.0, 1.0);
+    show(&rt, average_first(poses, 0), 0.0, 1.0)?;
+    show(&rt, average_first(poses, 1), 1.0, 1.0)?;
+    show(&rt, average_first(poses, 2), 2.5, 1.0)?;
+    show(&rt, average_first(poses, 64), 2.015625, 1.0)?;
+    show(&rt, average_first(poses, 65), 0.0, 1.0)?;
     // The last of 64 holds an infinity; of 63 none does.
     poses[63] = pose(1.0 / 0.0, 1.0);
-    show(average_first(poses, 64), 0.0, 1.0);
-    show(average_first(poses, 2), 2.5, 1.0);
+    show(&rt, average_first(poses, 64), 0.0, 1.0)?;
+    show(&rt, average_first(poses, 2), 2.5, 1.0)?;
     // And so does a lower one.
     poses[7] = pose(0.0, 0.0 / 0.0);
-    show(average_first(poses, 64), 0.0, 1.0);
+    show(&rt, average_first(poses, 64), 0.0, 1.0)?;
     // A zero rotation has the identity for its mean.
     poses[0] = pose(3.0, 0.0);
-    show(average_first(poses, 1), 3.0, 1.0);
+    show(&rt, average_first(poses, 1), 3.0, 1.0)
 }

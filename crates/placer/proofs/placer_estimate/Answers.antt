@@ -1,5 +1,4 @@
 -- `placer_estimate` meets its contract: what the direct call answers, its outcome as a code. Assumes nothing.
-use borrow.Author.Rules.{rules}
 use Rattle.placer.proofs.Replies.{estimated}
 use Rattle.placer.proofs.placer_estimate.Goals as goal
 

@@ -1,6 +1,5 @@
 -- `placer_frames` meets its contract: what the entry answers, as a code, and what it leaves. Assumes nothing.
 use mathlib.Core.Path.{ap, ◌∙◌}
-use borrow.Author.Rules.{rules}
 use Rattle.placer.specs.Code.{code_of_imported}
 use Rattle.placer.proofs.placer_frames.Goals as goal
 

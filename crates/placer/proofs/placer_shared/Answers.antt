@@ -1,7 +1,6 @@
 -- `placer_shared` meets its contract: words that are no record are refused, and any other are the session that the query is asked of. Assumes nothing.
 use mathlib.Core.Path.{◌≡◌, sym, ap, ◌∙◌}
 use mathlib.Core.Bool.{true, false}
-use borrow.Author.Rules.{rules}
 use Rattle.session_record.specs.declared.Session.{Session}
 use Rattle.shared_query.specs.Query.{shared_answer}
 use Rattle.record_words.specs.Words.{is_record}

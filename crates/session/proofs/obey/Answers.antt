@@ -3,7 +3,6 @@ use Prim.Native.Nat.{ℕ}
 use native.Mathlib.Omega.{arith}
 use mathlib.Core.Path.{◌≡◌, sym, ap, subst, ◌∙◌}
 use mathlib.Core.Option.{none}
-use borrow.Author.Rules.{rules}
 use Rattle.command.specs.Command.{parse}
 use Rattle.session_record.specs.Session.{session_of}
 use Rattle.session_record.specs.declared.Held.{Held}

@@ -2,7 +2,6 @@
 use mathlib.Core.Path.{sym, ◌∙◌}
 use Rattle.placer.specs.Code.{code_of_averaged}
 use Rattle.placer.specs.Exports.{mean_after}
-use borrow.Author.Rules.{rules}
 use Rattle.placer.proofs.averages.answer_list.Goals as goal
 
 pub returns-in-Refused : goal.returns-in-Refused

@@ -1,5 +1,4 @@
 -- `imported_code` meets its contract: by the variants, and what `refusal_code` ensures. Assumes nothing.
-use borrow.Author.Rules.{rules}
 use Rattle.placer.specs.Code.{code_of_imported}
 use Rattle.placer.proofs.code.imported_code.Goals as goal
 

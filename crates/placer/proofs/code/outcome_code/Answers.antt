@@ -1,5 +1,4 @@
 -- `outcome_code` meets its contract: by the variants, and what `refusal_code` ensures. Assumes nothing.
-use borrow.Author.Rules.{rules}
 use Rattle.placer.specs.Code.{code_of_outcome}
 use Rattle.placer.proofs.code.outcome_code.Goals as goal
 

@@ -1,5 +1,4 @@
 -- `reply_code` meets its contract: by the variants, and what `refusal_code` ensures. Assumes nothing.
-use borrow.Author.Rules.{rules}
 use Rattle.placer.specs.Code.{code_of_reply}
 use Rattle.placer.proofs.code.reply_code.Goals as goal
 

@@ -1,16 +1,10 @@
 -- `keep_record` meets its contract: by the reply's variants, and what `write_record` ensures. Assumes nothing.
 use Prim.Native.Nat.{ℕ}
-use native.Mathlib.Omega.{arith}
 use mathlib.Core.Path.{◌≡◌, refl, ◌∙◌}
-use mathlib.Core.Logic.{⊎_elim}
-use mathlib.Core.List.{List, [], ◌∷◌}
-use types.Run.{OneOf}
-use denote.Enum.Declared.{tag_of}
-use borrow.Author.Rules.{rules}
+use mathlib.Core.List.{List}
 use Rattle.session_record.specs.declared.Session.{Session}
 use Rattle.session_commands.specs.declared.Reply.{Reply}
 use Rattle.session_commands.specs.declared.Reply.TheVariants.{End, Accepted, Solved, Refused}
-use Rattle.session_commands.specs.contracts.Reply.{the_type}
 use Rattle.placer.specs.Inner.Records.{words_kept}
 use Rattle.placer.proofs.record.keep_record.Goals as goal
 
@@ -27,4 +21,4 @@ unfolding words_kept
 returns-in-Accepted c = c.write_record.ensures ∙ simp c.in-Accepted.is
 
 pub returns-in_default : goal.returns-in_default
-returns-in_default c = unwritten c.args.reply c.args.session c.args.words.now c.in_default.not-Accepted
+returns-in_default c = unwritten c.args.reply.now c.args.session c.args.words.now c.in_default.not-Accepted

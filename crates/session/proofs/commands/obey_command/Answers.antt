@@ -1,9 +1,7 @@
 -- `obey_command` meets its contract: what `parse` found says which command is obeyed, or which refusal stops the stream. Assumes nothing.
 use native.Mathlib.Omega.{arith}
-use mathlib.Core.Path.{sym, ap, ◌∙◌, subst}
-use borrow.Author.Rules.{rules}
+use mathlib.Core.Path.{sym, ap, ◌∙◌}
 use Rattle.session_commands.specs.Obeyed.{state}
-use Rattle.command.specs.Inner.Parts.{ParsedAs}
 use Rattle.session_commands.specs.Inner.Turns.{turn_result}
 use Rattle.session_record.specs.Session.{session_of}
 use Rattle.session_commands.specs.declared.Turn.{Turn}
