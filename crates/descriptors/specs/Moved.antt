@@ -1,15 +1,12 @@
 -- Counts of bytes that calls moved. Assumes nothing.
-use Rattle.std.specs.Prelude.{ℕ, ◌≤◌, ◌≡◌, List, length, take}
+use Rattle.std.specs.Prelude.{ℕ, ◌≤◌, ◌≡◌, List, length}
+use Rattle.io.specs.Counts.{IsPrefixLen}
 use Rattle.descriptors.specs.declared.Moved.{Moved}
 use Rattle.descriptors.specs.declared.Moved.TheVariants.{Bytes, Nothing, Again, Failed}
 use Rattle.descriptors.specs.declared.Input.{Input}
 use Rattle.descriptors.specs.declared.Input.TheVariants as input
 use Rattle.descriptors.specs.declared.Output.{Output}
 use Rattle.descriptors.specs.declared.Output.TheVariants as output
-
--- So many bytes stand at the front: there are as many, and they are as many as that. The second part follows from the first.
-abbrev pub IsPrefixLen : ℕ → List ℕ → Type 0
-IsPrefixLen n bytes = (n ≤ length bytes) × (n ≡ length (take n bytes))
 
 -- Bytes that were moved are at most so many.
 abbrev pub MovedWithin : Moved → ℕ → Type 0

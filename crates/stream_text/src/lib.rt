@@ -1,4 +1,6 @@
 // A whole stream obeyed, command after command, with the text that it prints in lent memory.
+#![tactic(auto)]
+
 ghost use Rattle.std.specs.Prelude.{◌-◌, ◌≤◌, ◌≡◌, cond, length, ltb};
 ghost use Rattle.std.proofs.Math.Option.{none};
 ghost use Rattle.refusal.specs.declared.Refusal.TheVariants.{TooLong, WrongLength};

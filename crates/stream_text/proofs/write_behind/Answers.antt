@@ -1,0 +1,13 @@
+-- `stream_text::write_behind` meets its contract: the text stands at the front of the part that is lent. Assumes nothing.
+use Prim.Native.Nat.{ℕ}
+use borrow.Author.Rules.{rules}
+use Rattle.listing.specs.Listing.{written}
+use Rattle.stream_text.proofs.Parts.{put_behind}
+use Rattle.stream_text.proofs.write_behind.Goals as goal
+
+pub returns : goal.returns
+returns c =
+    let a = c.args in
+    let w = c.write_reply in
+    put_behind a.text.now a.used
+    (λ (room : ℕ). written a.reply a.held a.transforms.now a.chains.now room) _ _ (search rules) (search rules) w.ensures
