@@ -1,14 +1,18 @@
 // Reads packed telemetry frames from standard input and writes their Pose commands to standard output, for a pipe into `rig`. A refusal is one line on standard
 // error, and then nothing goes to standard output. What cannot be read or written is told on standard error.
+#![tactic(auto)]
+
 ghost use Rattle.std.specs.Prelude.{◌≤◌, ◌≡◌, length};
 ghost use Rattle.listing.specs.Listing.{listing_bytes};
 ghost use Rattle.frames.specs.Told.{input_bytes, Told, Taken};
 ghost use Rattle.frames.specs.Inner.Room.{max_commands, room_for};
 
 use command::parse::POSE_WIDTH;
-use descriptors::{Input, Output, read_to_end, write_whole};
-use libc::{STDERR_FILENO, STDIN_FILENO, STDOUT_FILENO};
+use descriptors::{Input, Output, read_to_end, tell, write_whole};
 use listing::{LISTING_BYTES, write_refusal};
+use std::io::{Error, ErrorKind, Read};
+use std::process::ExitCode;
+use std::time::Clock;
 use telemetry::{FRAME_BYTES, Imported, MAX_FRAMES, import_frames, shortened};
 
 // More than a file of frames may have; what a longer one has beyond it is read and counted, and not kept.
@@ -35,9 +39,9 @@ pub struct Reading {
 }
 
 // An input that cannot be read to its end is not turned into commands at all.
-fn main() {
+fn main(rt: HostRuntime) -> ExitCode {
     let mut input = [0u8; INPUT_BYTES];
-    let reading = read_frames(&mut input);
+    let reading = read_frames(&rt, &mut rt.stdin(), &mut input);
     if reading.ended {
         let kept = reading.kept;
         let mut commands = [0u8; COMMAND_BYTES];
@@ -45,20 +49,25 @@ fn main() {
         let answer = turn_frames(&input[..kept], &mut commands, &mut line);
         let told = answer.line;
         let put = answer.commands;
-        write_whole(STDERR_FILENO, &line[..told]);
-        match write_whole(STDOUT_FILENO, &commands[..put]) {
-            Output::Failed => {
-                os::fail(b"frames: standard output");
+        write_whole(&rt, &mut rt.stderr(), &line[..told]);
+        match write_whole(&rt, &mut rt.stdout(), &commands[..put]) {
+            Output::Failed(error) => {
+                tell(&rt, "frames: standard output", error);
+                ExitCode::FAILURE
             }
-            Output::Whole(_) => {}
+            Output::Whole(_) => ExitCode::SUCCESS,
         }
     } else {
-        os::fail(b"frames: standard input");
+        ExitCode::FAILURE
     }
 }
 
-// The whole input: where it is longer than any that passes, what is kept is refused alike.
-fn read_frames(memory: &mut [u8]) -> Reading
+// The whole input: where it is longer than any that passes, what is kept is refused alike. An input that fails is told.
+fn read_frames<R: Clock + Eprint + Alloc, I: Read>(
+    rt: &R,
+    input: &mut I,
+    memory: &mut [u8],
+) -> Reading
     requires { length memory.old ≡ input_bytes }
     ensures { Taken result }
 {
@@ -67,8 +76,9 @@ fn read_frames(memory: &mut [u8]) -> Reading
     let mut fillings = MOST_FILLINGS;
     while 0 < fillings {
         fillings -= 1;
-        match read_to_end(STDIN_FILENO, &mut memory[kept..]) {
-            Input::Failed => {
+        match read_to_end(rt, input, &mut memory[kept..]) {
+            Input::Failed(error) => {
+                tell(rt, "frames: standard input", error);
                 return Reading {
                     ended: false,
                     kept: 0,
@@ -89,6 +99,11 @@ fn read_frames(memory: &mut [u8]) -> Reading
             }
         }
     }
+    tell(
+        rt,
+        "frames: standard input",
+        Error::from(ErrorKind::TimedOut),
+    );
     Reading {
         ended: false,
         kept: 0,

@@ -1,6 +1,8 @@
 // Tests: the product and the inverses of poses, exported so that the arithmetic can be held to the Rust's on any numbers at all; and whole streams
 // obeyed with what they print in memory, exported so that they can be timed. The library has none of these: no paper names the first two, and it takes
 // finite poses alone.
+#![tactic(auto)]
+
 ghost use Rattle.test_probe.specs.Exports.{Multiplied, Inverted};
 ghost use Rattle.test_probe.specs.Streams.{Printed};
 
