@@ -1,1 +1,2 @@
 // What `rig` prints for a whole stream: definitions in specs/, theorems in proofs/. There is no code here.
+#![tactic(auto)]

@@ -5,6 +5,7 @@
 // 2. m takes fours until it has 53 or 54 digits. The 53 digits of the root are √(m * 2 ^ 52) to the nearest whole number.
 // 3. A guess at that number is made in doubles. Its exact square shows which it is, the guess, the number below it or the number above it.
 // 4. Where it is none of the three, which no input is known to bring about, the number is worked out a binary digit at a time.
+#![tactic(auto)]
 
 ghost use Rattle.std.specs.Prelude.{◌≡◌, ◌+◌, ◌*◌, ◌^◌, ◌<◌, ◌≤◌};
 ghost use Rattle.std.specs.Float.{binary64};

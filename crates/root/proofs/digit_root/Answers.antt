@@ -1,7 +1,6 @@
 -- `root::digit_root` meets its contract: the loop keeps `Turned`, and at the end the remainder says which way to round. The measure is the digits left. Assumes nothing.
 use mathlib.Core.Path.{sym, subst₂}
-use mathlib.Core.Logic.{⊎_elim}
-use Prim.Native.Nat.{ℕ, ◌+◌, ◌-◌, ◌*◌, ◌%◌, ◌^◌}
+use Prim.Native.Nat.{ℕ, ◌+◌, ◌*◌, ◌%◌, ◌^◌}
 use native.Mathlib.Omega.{arith}
 use Rattle.root.proofs.Loop.{Turned, begun, digit_one, digit_zero, rounds_up, rounds_down}
 use Rattle.root.proofs.digit_root.Goals as goal
@@ -16,8 +15,9 @@ loop-i-preserved c =
     let m = c.args.m in
     let keep : ℕ → ℕ → Type 0 = λ q rem. Turned m q rem (l.rest % 2 ^ 52 * 4) (l.i + 1) in
     elim c.if-step-part.branch [
-      then-step-part w ↦ subst₂ keep (sym w.q-is) (sym w.rem-is) (digit_one m l.q l.rem l.rest l.i l.invariant (omega arith) w.if-step-part.true)
-    | else-step-part w ↦ subst₂ keep (sym w.q-is) (sym w.rem-is) (digit_zero m l.q l.rem l.rest l.i l.invariant (omega arith) (omega arith)) ]
+      | then-step-part w ↦ subst₂ keep (sym w.q-is) (sym w.rem-is) (digit_one m l.q l.rem l.rest l.i l.invariant (omega arith) w.if-step-part.true)
+      | else-step-part w ↦ subst₂ keep (sym w.q-is) (sym w.rem-is) (digit_zero m l.q l.rem l.rest l.i l.invariant (omega arith) (omega arith))
+    ]
 
 pub returns-then-q-rem : goal.returns-then-q-rem
 returns-then-q-rem c =

@@ -3,7 +3,6 @@
 use Prim.Native.Nat.{◌/◌, ◌^◌}
 use native.Mathlib.Nat.{div-le_self}
 use native.Mathlib.Omega.{arith}
-use borrow.Author.Rules.{rules}
 use Rattle.root.proofs.Ends.{finite_no_nan, equal_not-nan}
 use Rattle.root.proofs.guess.Goals as goal
 

@@ -3,7 +3,6 @@ use mathlib.Core.Path.{ap, ◌∙◌}
 use native.Mathlib.Omega.{arith}
 use Rattle.root.specs.Inner.Steps.{pattern}
 use Rattle.root.proofs.Scale.{halves}
-use borrow.Author.Rules.{rules}
 use Rattle.root.proofs.halved.Goals as goal
 
 pub overflow_mul-m : goal.overflow_mul-m

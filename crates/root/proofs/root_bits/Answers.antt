@@ -1,6 +1,5 @@
 -- `root::root_bits` meets its contract, at a subnormal and at any other pattern. Assumes nothing.
 use Rattle.root.proofs.Bits.{root_subnormal, root_normal}
-use borrow.Author.Rules.{rules}
 use Rattle.root.proofs.root_bits.Goals as goal
 
 pub returns-then-field-eq0 : goal.returns-then-field-eq0

@@ -2,7 +2,7 @@
 use mathlib.Core.Path.{sym, ap, ◌∙◌}
 use native.Mathlib.Omega.{arith}
 use Rattle.root.specs.Inner.Steps.{pattern}
-use Rattle.root.proofs.Scale.{Scaled, unscaled, scaled_more, Rounded-digits, pattern_scaled}
+use Rattle.root.proofs.Scale.{unscaled, scaled_more, Rounded-digits, pattern_scaled}
 use Rattle.root.proofs.scaled_root.Goals as goal
 
 pub loop-n-init : goal.loop-n-init

@@ -1,8 +1,5 @@
 -- `root::scaled_root` meets its contract: the loop keeps `Scaled`, and what it leaves has a root whose digits `nearest_root` gives. The measure is the exponent. Assumes nothing.
-use mathlib.Core.Path.{sym, ap, ◌∙◌}
-use native.Mathlib.Omega.{arith}
-use Rattle.root.specs.Inner.Steps.{pattern}
-use Rattle.root.proofs.Scale.{Scaled, unscaled, scaled_more, Rounded-digits, pattern_scaled}
+use Rattle.root.proofs.Scale.{Scaled}
 use Rattle.root.proofs.scaled_root.Given as goal
 
 abbrev pub invariant-loop-n : goal.invariant-loop-n

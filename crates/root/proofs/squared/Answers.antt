@@ -1,7 +1,6 @@
 -- `root::squared` meets its contract, by the three products of the two parts. Assumes nothing.
 use native.Mathlib.Omega.{arith}
 use Rattle.root.proofs.Words.{square_parts}
-use borrow.Author.Rules.{rules}
 use Rattle.root.proofs.squared.Goals as goal
 
 pub overflow_mul-c : goal.overflow_mul-c
