@@ -1,5 +1,5 @@
 /* The rig placer for C: the exports of libplacer.a, which `sh tests/library.sh placer` makes for x86-64 Linux. It calls
- * nothing but memcpy.
+ * nothing but memcpy and memset.
  *
  * A slice passes as a pointer and a length, the length in elements and not in bytes. Where the length is 0 the pointer is not followed, and
  * NULL will do. Otherwise it is aligned as its type asks, and its length in bytes is at most PTRDIFF_MAX. What is lent to be written (not
