@@ -12,7 +12,7 @@ mkdir -p "$root/target"
 # The name of each definition, and the numbers of 16 digits in it, up to the next blank line.
 for file in arithmetic/specs/Rows.antt mean/specs/Rows.antt claims_cases/specs/GridRow.antt claims_cases/specs/OtherGrids.antt; do cat "$root/crates/$file"; echo; done |
     awk '
-        /^[A-Za-z][A-Za-z0-9]* =/ { name = $1 }
+        /^[A-Za-z][A-Za-z0-9_]* =/ { name = $1 }
         /^$/ { if (name != "" && numbers != "") print name numbers; name = ""; numbers = "" }
         name != "" { line = $0; while (match(line, /0x[0-9a-f_]+/)) { word = substr(line, RSTART + 2, RLENGTH - 2); gsub(/_/, "", word); numbers = numbers " " word; line = substr(line, RSTART + RLENGTH) } }
     ' | LC_ALL=C sort >"$root/target/rows.crates"

@@ -242,9 +242,9 @@ POSES = {
     'across': (0., 0., 0., power(512), 0., -power(512), 0.),
     'still': (0., 0., 0., 0., 0., 0., 0.),
     # A dot product of 0.
-    'aboutI': (0., 0., 0., 1., 0., 0., 0.),
-    'aboutJ': (0., 0., 0., 0., 1., 0., 0.),
-    'minusZeros': (-0., -0., -0., -0., 1., -0., -0.),
+    'about_i': (0., 0., 0., 1., 0., 0., 0.),
+    'about_j': (0., 0., 0., 0., 1., 0., 0.),
+    'minus_zeros': (-0., -0., -0., -0., 1., -0., -0.),
     # Its squared norm rounds to 0.
     'tiny': (1., 2., 3., power(-600), 0., 0., 0.),
     # The squared norm of two of them does not, but that of their half does.
@@ -253,31 +253,31 @@ POSES = {
     'short': (0., 0., 0., 3 * power(-100), 0., 4 * power(-100), 0.),
     'overflown': (math.inf, 0., 0., math.nan, 0., 0., 1.),
     # Negations of y and j that are not 0 - x.
-    'otherZeros': (0., 0., -0., 0., 0., -0., -0.),
+    'other_zeros': (0., 0., -0., 0., 0., -0., -0.),
     # After `still`, four terms of -0 for i, for j, for k, for w.
-    'zerosI': (0., 0., 0., -0., 0., -0., -0.),
-    'zerosJ': (0., 0., 0., -0., -0., 0., -0.),
-    'zerosK': (0., 0., 0., 0., -0., -0., -0.),
-    'zerosW': (0., 0., 0., 0., 0., 0., -0.),
-    # Its dot product with aboutI is just below 0.
-    'justPast': (0., 0., 0., -power(-60), 1., 0., 0.),
+    'zeros_i': (0., 0., 0., -0., 0., -0., -0.),
+    'zeros_j': (0., 0., 0., -0., -0., 0., -0.),
+    'zeros_k': (0., 0., 0., 0., -0., -0., -0.),
+    'zeros_w': (0., 0., 0., 0., 0., 0., -0.),
+    # Its dot product with about_i is just below 0.
+    'just_past': (0., 0., 0., -power(-60), 1., 0., 0.),
     # A dot product of -1 with the first where i and k are added, and j and w: in every other order one of the two has 0. That of the last is 0, by rounding alone.
     'ones': (0., 0., 0., 1., 1., 1., 1.),
     'paired': (0., 0., 0., power(60), -1., -power(60), 0.),
-    'otherPaired': (0., 0., 0., -1., power(60), 0., -power(60)),
+    'other_paired': (0., 0., 0., -1., power(60), 0., -power(60)),
     'cancelled': (0., 0., 0., power(60), -power(60), -1., 0.),
     # A dot product of -0.
-    'tinyI': (0., 0., 0., power(-600), 0., 0., 0.),
-    'lessMinusZeros': (0., 0., 0., -power(-500), -0., -0., -0.),
+    'tiny_i': (0., 0., 0., power(-600), 0., 0., 0.),
+    'less_minus_zeros': (0., 0., 0., -power(-500), -0., -0., -0.),
     # A dot product that rounds to 0, unless they are normalised first.
-    'smallI': (0., 0., 0., power(-520), -0., 0., 0.),
-    'smallBack': (0., 0., 0., -power(-560), -0., 1., 0.),
-    'twiceBack': (0., 0., 0., -2., 0., 0., 0.),
-    'turnedC': turned(C),
-    'turnedF': turned(F),
+    'small_i': (0., 0., 0., power(-520), -0., 0., 0.),
+    'small_back': (0., 0., 0., -power(-560), -0., 1., 0.),
+    'twice_back': (0., 0., 0., -2., 0., 0., 0.),
+    'turned_c': turned(C),
+    'turned_f': turned(F),
     'empty': (math.nan,) * 7,
-    'farRight': (power(1023), 0., 0., 0., 0., 0., 1.),
-    'farLeft': (-power(1023), 0., 0., 0., 0., 0., 1.),
+    'far_right': (power(1023), 0., 0., 0., 0., 0., 1.),
+    'far_left': (-power(1023), 0., 0., 0., 0., 0., 1.),
 }
 
 
@@ -286,12 +286,12 @@ GRIDS = {
     # Camera 1 meets camera 0 alone, and that one the reference.
     'grid': ([
         [A, None, B],
-        [POSES['turnedC'], None, D],
+        [POSES['turned_c'], None, D],
         [B, E, None],
-        [D, POSES['turnedF'], None],
+        [D, POSES['turned_f'], None],
     ], 2, [2, 1, 0, 2, 2, 0]),
     # The link overflows.
-    'overflow': ([[POSES['farRight'], POSES['farLeft']]], 0, [0, 0, 0, 1]),
+    'overflow': ([[POSES['far_right'], POSES['far_left']]], 0, [0, 0, 0, 1]),
     # A link of one view.
     'single': ([[A, B], [C, None]], 0, [0, 0, 0, 1]),
     # Camera 2 is three links from the reference; camera 1 meets the reference in three views, and view 0 has three cameras.
@@ -313,13 +313,13 @@ def solved(reading):
         assert chains == expected
         for n, pose in enumerate(transforms):
             cameras = len(views[0])
-            found['%sCamera%d' % (name, n) if n < cameras else '%sTarget%d' % (name, n - cameras)] = pose
+            found['%s_camera%d' % (name, n) if n < cameras else '%s_target%d' % (name, n - cameras)] = pose
     return found
 
 
 def family(row):
     """The rig of which a row is a part, or the row."""
-    return re.sub(r'^(%s)(Camera|Target)[0-9]+$' % '|'.join(GRIDS), r'\1', row)
+    return re.sub(r'^(%s)_(camera|target)[0-9]+$' % '|'.join(GRIDS), r'\1', row)
 
 
 def rows(reading):
@@ -327,33 +327,33 @@ def rows(reading):
     q = {name: pose[3:] for name, pose in p.items()}
     dots = [('A', 'B'), ('A', 'C'), ('E', 'F'), ('E', 'E')]
     return {
-        'productAB': reading.product(A, B),
-        'productEF': reading.product(E, F),
-        'productOverflows': reading.product(p['huge'], p['far']),
-        'productUnderflows': reading.product(p['slight'], p['near']),
-        'productsOfZeros': sum((reading.product(p['still'], p['zeros' + n]) for n in 'IJKW'), ()),
-        'inverseC': reading.inverse(C),
-        'inverseOfZeros': reading.inverse(p['zeros']),
-        'inverseOfOtherZeros': reading.inverse(p['otherZeros']),
+        'product_ab': reading.product(A, B),
+        'product_ef': reading.product(E, F),
+        'product_overflows': reading.product(p['huge'], p['far']),
+        'product_underflows': reading.product(p['slight'], p['near']),
+        'products_of_zeros': sum((reading.product(p['still'], p['zeros_' + n.lower()]) for n in 'IJKW'), ()),
+        'inverse_c': reading.inverse(C),
+        'inverse_of_zeros': reading.inverse(p['zeros']),
+        'inverse_of_other_zeros': reading.inverse(p['other_zeros']),
         'dots': tuple(reading.dot(q[a], q[b]) for a, b in dots),
-        'averageABCD': reading.average([A, B, C, D]),
-        'averageDBA': reading.average([D, B, A]),
-        'averageOfMinusZeros': reading.average([p['minusZeros']]),
-        'averageAtZeroDot': reading.average([p['aboutI'], p['aboutJ']]),
-        'averageAtNanDot': reading.average([p['long'], p['across'], p['still'], p['still']]),
-        'averageOfTiny': reading.average([p['tiny']]),
-        'averageHalved': reading.average([p['halved'], p['halved']]),
-        'averageOfShort': reading.average([p['short']]),
-        'averageOfOverflown': reading.average([p['overflown']]),
-        'averageJustBelowZeroDot': reading.average([p['aboutI'], p['justPast']]),
-        'averageByPairedDot': reading.average([p['ones'], p['paired']]),
-        'averageByOtherPairedDot': reading.average([p['ones'], p['otherPaired']]),
-        'averageByRoundedDot': reading.average([p['ones'], p['cancelled']]),
-        'averageAtMinusZeroDot': reading.average([p['tinyI'], p['lessMinusZeros']]),
-        'averageAtUnderflownDot': reading.average([p['smallI'], p['smallBack']]),
-        'averageAfterStill': reading.average([p['still'], p['aboutI'], p['twiceBack']]),
-        'averageOfLong': reading.average([p['long']]),
-        'averageOfSeven': reading.average([F, A, A, B, C, D, E]),
+        'average_abcd': reading.average([A, B, C, D]),
+        'average_dba': reading.average([D, B, A]),
+        'average_of_minus_zeros': reading.average([p['minus_zeros']]),
+        'average_at_zero_dot': reading.average([p['about_i'], p['about_j']]),
+        'average_at_nan_dot': reading.average([p['long'], p['across'], p['still'], p['still']]),
+        'average_of_tiny': reading.average([p['tiny']]),
+        'average_halved': reading.average([p['halved'], p['halved']]),
+        'average_of_short': reading.average([p['short']]),
+        'average_of_overflown': reading.average([p['overflown']]),
+        'average_just_below_zero_dot': reading.average([p['about_i'], p['just_past']]),
+        'average_by_paired_dot': reading.average([p['ones'], p['paired']]),
+        'average_by_other_paired_dot': reading.average([p['ones'], p['other_paired']]),
+        'average_by_rounded_dot': reading.average([p['ones'], p['cancelled']]),
+        'average_at_minus_zero_dot': reading.average([p['tiny_i'], p['less_minus_zeros']]),
+        'average_at_underflown_dot': reading.average([p['small_i'], p['small_back']]),
+        'average_after_still': reading.average([p['still'], p['about_i'], p['twice_back']]),
+        'average_of_long': reading.average([p['long']]),
+        'average_of_seven': reading.average([F, A, A, B, C, D, E]),
         **solved(reading),
     }
 

@@ -53,7 +53,7 @@ class Reader:
             'handed': lambda masks, shared, views, cameras, reference: oracle.Session(masks, views, cameras, reference, shared=shared),
             'leaves': lambda bytes_, rows: (bytes(bytes_), tuple(table(rows))),
             'asks': lambda session, first, second, told: (session, first, second, told),
-            'calledAt': lambda offset, after, row: (offset, after, row),
+            'called_at': lambda offset, after, row: (offset, after, row),
         }
 
     @staticmethod
@@ -146,7 +146,7 @@ def main():
             print('rows: %s: %s gives %r, the row says %r' % (name, who, found, said), file=sys.stderr)
 
     for name, kind in reader.types.items():
-        if name in ('freshRows', 'solvedRows', 'otherRows', 'rows', 'callRows') or kind not in ('Row', 'List Row', 'List CallRow'):
+        if name in ('fresh_rows', 'solved_rows', 'other_rows', 'rows', 'call_rows') or kind not in ('Row', 'List Row', 'List CallRow'):
             continue
         value = reader.value(name)
         if kind == 'List CallRow':
@@ -163,21 +163,21 @@ def main():
                 ran += 1
             hold(name, 'the reading', reading(session, stream), text)
             read += 1
-    hold('rows', 'the file', (read, called), (len(reader.value('rows')), len(reader.value('callRows'))))
+    hold('rows', 'the file', (read, called), (len(reader.value('rows')), len(reader.value('call_rows'))))
 
     with open(SUMMARIES, encoding='utf-8') as file:
         reader = Reader(file.read())
-    records = [(name, session, name == 'trueRecords') for name in ('trueRecords', 'falseRecords') for session in reader.value(name)]
+    records = [(name, session, name == 'true_records') for name in ('true_records', 'false_records') for session in reader.value(name)]
     for name, session, true in records:
         hold(name, 'the reading', session.possible(), true)
-    summaries, queries = reader.value('summaryRows'), reader.value('queryRows')
+    summaries, queries = reader.value('summary_rows'), reader.value('query_rows')
     for stream, entries in summaries:
         session = oracle.Session()
         reading(session, stream)
-        hold('summaryRows', 'the reading', session.shared, entries)
+        hold('summary_rows', 'the reading', session.shared, entries)
     for session, first, second, told in queries:
         answer = session.query(first, second)
-        hold('queryRows', 'the reading', list(answer) if isinstance(answer, tuple) else [answer], told)
+        hold('query_rows', 'the reading', list(answer) if isinstance(answer, tuple) else [answer], told)
     if wrong:
         sys.exit(1)
     print('rows: %d streams through the program, %d with those from other states and %d calls, %d records, %d summaries and %d queries through the reading, as the rows say'

@@ -47,10 +47,10 @@ fn solve(name: &str, cameras: usize, reference: usize, cells: &[Pose], expected:
             assert_eq!(chains, expected, "parents and links of {name}");
             let (of_cameras, of_views) = transforms.split_at(7 * cameras);
             for (camera, pose) in of_cameras.chunks(7).enumerate() {
-                line(&format!("{name}Camera{camera}"), pose);
+                line(&format!("{name}_camera{camera}"), pose);
             }
             for (view, pose) in of_views.chunks(7).enumerate() {
-                line(&format!("{name}Target{view}"), pose);
+                line(&format!("{name}_target{view}"), pose);
             }
         }
         refused => panic!("{name} is solved, and the answer was {refused:?}"),
@@ -98,45 +98,45 @@ fn main() {
     let far_left = [-power(1023), 0.0, 0.0, 0.0, 0.0, 0.0, 1.0];
     let poses = [
         ("A", a), ("B", b), ("C", c), ("D", d), ("E", e), ("F", f), ("huge", huge), ("far", far), ("slight", slight), ("near", near),
-        ("zeros", zeros), ("minusZeros", minus_zeros), ("aboutI", about_i), ("aboutJ", about_j), ("long", long), ("across", across),
+        ("zeros", zeros), ("minus_zeros", minus_zeros), ("about_i", about_i), ("about_j", about_j), ("long", long), ("across", across),
         ("still", still), ("tiny", tiny), ("halved", halved), ("short", short), ("overflown", overflown),
-        ("otherZeros", other_zeros), ("zerosI", zeros_i), ("zerosJ", zeros_j), ("zerosK", zeros_k), ("zerosW", zeros_w),
-        ("justPast", just_past), ("ones", ones), ("paired", paired), ("otherPaired", other_paired), ("cancelled", cancelled), ("tinyI", tiny_i),
-        ("lessMinusZeros", less_minus_zeros), ("smallI", small_i), ("smallBack", small_back), ("twiceBack", twice_back),
-        ("turnedC", turned(c)), ("turnedF", turned(f)), ("empty", [f64::NAN; 7]), ("farRight", far_right), ("farLeft", far_left),
+        ("other_zeros", other_zeros), ("zeros_i", zeros_i), ("zeros_j", zeros_j), ("zeros_k", zeros_k), ("zeros_w", zeros_w),
+        ("just_past", just_past), ("ones", ones), ("paired", paired), ("other_paired", other_paired), ("cancelled", cancelled), ("tiny_i", tiny_i),
+        ("less_minus_zeros", less_minus_zeros), ("small_i", small_i), ("small_back", small_back), ("twice_back", twice_back),
+        ("turned_c", turned(c)), ("turned_f", turned(f)), ("empty", [f64::NAN; 7]), ("far_right", far_right), ("far_left", far_left),
     ];
     for (name, pose) in poses {
         line(name, &pose);
     }
 
-    line("productAB", &product(a, b));
-    line("productEF", &product(e, f));
-    line("productOverflows", &product(huge, far));
-    line("productUnderflows", &product(slight, near));
-    line("productsOfZeros", &[zeros_i, zeros_j, zeros_k, zeros_w].map(|right| product(still, right)).concat());
-    line("inverseC", &inverse(c));
-    line("inverseOfZeros", &inverse(zeros));
-    line("inverseOfOtherZeros", &inverse(other_zeros));
+    line("product_ab", &product(a, b));
+    line("product_ef", &product(e, f));
+    line("product_overflows", &product(huge, far));
+    line("product_underflows", &product(slight, near));
+    line("products_of_zeros", &[zeros_i, zeros_j, zeros_k, zeros_w].map(|right| product(still, right)).concat());
+    line("inverse_c", &inverse(c));
+    line("inverse_of_zeros", &inverse(zeros));
+    line("inverse_of_other_zeros", &inverse(other_zeros));
     line("dots", &[dot(a, b), dot(a, c), dot(e, f), dot(e, e)]);
 
-    line("averageABCD", &average(&[a, b, c, d]));
-    line("averageDBA", &average(&[d, b, a]));
-    line("averageOfMinusZeros", &average(&[minus_zeros]));
-    line("averageAtZeroDot", &average(&[about_i, about_j]));
-    line("averageAtNanDot", &average(&[long, across, still, still]));
-    line("averageOfTiny", &average(&[tiny]));
-    line("averageHalved", &average(&[halved, halved]));
-    line("averageOfShort", &average(&[short]));
-    line("averageOfOverflown", &average(&[overflown]));
-    line("averageJustBelowZeroDot", &average(&[about_i, just_past]));
-    line("averageByPairedDot", &average(&[ones, paired]));
-    line("averageByOtherPairedDot", &average(&[ones, other_paired]));
-    line("averageByRoundedDot", &average(&[ones, cancelled]));
-    line("averageAtMinusZeroDot", &average(&[tiny_i, less_minus_zeros]));
-    line("averageAtUnderflownDot", &average(&[small_i, small_back]));
-    line("averageAfterStill", &average(&[still, about_i, twice_back]));
-    line("averageOfLong", &average(&[long]));
-    line("averageOfSeven", &average(&[f, a, a, b, c, d, e]));
+    line("average_abcd", &average(&[a, b, c, d]));
+    line("average_dba", &average(&[d, b, a]));
+    line("average_of_minus_zeros", &average(&[minus_zeros]));
+    line("average_at_zero_dot", &average(&[about_i, about_j]));
+    line("average_at_nan_dot", &average(&[long, across, still, still]));
+    line("average_of_tiny", &average(&[tiny]));
+    line("average_halved", &average(&[halved, halved]));
+    line("average_of_short", &average(&[short]));
+    line("average_of_overflown", &average(&[overflown]));
+    line("average_just_below_zero_dot", &average(&[about_i, just_past]));
+    line("average_by_paired_dot", &average(&[ones, paired]));
+    line("average_by_other_paired_dot", &average(&[ones, other_paired]));
+    line("average_by_rounded_dot", &average(&[ones, cancelled]));
+    line("average_at_minus_zero_dot", &average(&[tiny_i, less_minus_zeros]));
+    line("average_at_underflown_dot", &average(&[small_i, small_back]));
+    line("average_after_still", &average(&[still, about_i, twice_back]));
+    line("average_of_long", &average(&[long]));
+    line("average_of_seven", &average(&[f, a, a, b, c, d, e]));
 
     // Camera 1 meets camera 0 alone, and that one the reference, camera 2.
     let none = [f64::NAN; 7];
