@@ -1,14 +1,17 @@
 // Tests: runs the cases of samples/cases.py, which samples/make.py writes to this crate's stdin. Each is a session record, an offset,
 // the lengths of the memory to lend, two cameras, and a stream. Prints the next offset and the reply of each call, to the stream's end, then
 // the record with its summary, and what the query answers for the cameras.
+#![tactic(auto)]
+
 ghost use Rattle.std.specs.Prelude.{◌+◌, ◌≤◌, ◌<◌, length};
 
-use libc::{STDIN_FILENO, STDOUT_FILENO};
 use listing::{LISTING_BYTES, write_reply};
 use session::Step;
 use session_commands::Reply;
 use session_record::{Session, held_of};
 use shared_query::{Shared, shared_views};
+use std::io;
+use std::io::Read;
 
 // A case begins with a line that is its label, and 26 words of 64 bits: the masks; views, cameras, reference; the offset; the lengths
 // of buffer, first and second answer; the stream's length; the two cameras to ask for. The summary, a byte an entry, and the stream follow.
@@ -41,49 +44,49 @@ struct Case {
     with: u8,
 }
 
-fn main() {
+fn main(rt: HostRuntime) -> io::Result<()> {
     let mut stream = [0u8; MOST_STREAM];
-    run_cases(&mut stream);
+    run_cases(&rt, &mut rt.stdin(), &mut stream)
 }
 
-fn run_cases(memory: &mut [u8]) {
-    let mut left = MOST_CASES;
-    while left > 0 {
-        if !run_case(memory) {
-            return;
+fn run_cases<P: Print, R: Read>(rt: &P, input: &mut R, memory: &mut [u8]) -> io::Result<()> {
+    for _ in 0..MOST_CASES {
+        if !run_case(rt, input, memory)? {
+            return Ok(());
         }
-        left -= 1;
     }
+    Ok(())
 }
 
 // The next case of the input, its stream read into `memory`; false where there is none, or where it asks for more than there is.
-fn run_case(memory: &mut [u8]) -> bool {
+fn run_case<P: Print, R: Read>(rt: &P, input: &mut R, memory: &mut [u8]) -> io::Result<bool> {
     let mut label = [0u8; LABEL_BYTES];
     let mut header = [0u8; HEADER_BYTES];
     let mut summary = [0u8; SUMMARY_BYTES];
-    if io::read_full(STDIN_FILENO, &mut label) < LABEL_BYTES {
-        return false;
+    if input.read_exact(&mut label).is_err() {
+        return Ok(false);
     }
-    io::write_all(STDOUT_FILENO, &label);
-    if io::read_full(STDIN_FILENO, &mut header) < HEADER_BYTES {
-        return false;
+    rt.write_all(&label)?;
+    if input.read_exact(&mut header).is_err() {
+        return Ok(false);
     }
-    if io::read_full(STDIN_FILENO, &mut summary) < SUMMARY_BYTES {
-        return false;
+    if input.read_exact(&mut summary).is_err() {
+        return Ok(false);
     }
     let case = read_case(&header, summary);
     let length = case.length;
     if length > memory.len() {
-        return false;
+        return Ok(false);
     }
-    if io::read_full(STDIN_FILENO, &mut memory[..length]) < length {
-        return false;
+    if input.read_exact(&mut memory[..length]).is_err() {
+        return Ok(false);
     }
     let mut buffer = [0.0f64; MOST_BUFFER];
     let mut transforms = [0.0f64; MOST_FIRST];
     let mut chains = [0u8; MOST_SECOND];
     let mut text = [0u8; LISTING_BYTES];
     run_lent(
+        rt,
         case,
         &memory[..length],
         &mut buffer,
@@ -94,27 +97,29 @@ fn run_case(memory: &mut [u8]) -> bool {
 }
 
 // A case in as much of the memory as it asks for.
-fn run_lent(
+fn run_lent<P: Print>(
+    rt: &P,
     case: Case,
     stream: &[u8],
     buffer: &mut [f64],
     transforms: &mut [f64],
     chains: &mut [u8],
     text: &mut [u8],
-) -> bool {
+) -> io::Result<bool> {
     let floats = case.buffer;
     let first = case.first;
     let second = case.second;
     if floats > buffer.len() {
-        return false;
+        return Ok(false);
     }
     if first > transforms.len() {
-        return false;
+        return Ok(false);
     }
     if second > chains.len() {
-        return false;
+        return Ok(false);
     }
     let after = run_calls(
+        rt,
         case.session,
         stream,
         case.at,
@@ -122,14 +127,16 @@ fn run_lent(
         &mut transforms[..first],
         &mut chains[..second],
         text,
-    );
-    print_record(after);
-    print_summary(after);
-    print_asked(after, case.asked, case.with)
+    )?;
+    print_record(rt, &after)?;
+    print_summary(rt, &after)?;
+    print_asked(rt, after, case.asked, case.with)?;
+    Ok(true)
 }
 
 // Calls from an offset on until the next is not below the stream's length; the record after them.
-fn run_calls(
+fn run_calls<P: Print>(
+    rt: &P,
     start: Session,
     stream: &[u8],
     from: usize,
@@ -137,7 +144,7 @@ fn run_calls(
     transforms: &mut [f64],
     chains: &mut [u8],
     text: &mut [u8],
-) -> Session {
+) -> io::Result<Session> {
     let mut session = start;
     let mut at = from;
     let mut left = stream.len() + 1;
@@ -145,84 +152,64 @@ fn run_calls(
         let step = session::obey(session, stream, at, buffer, transforms, chains);
         session = step.session;
         at = step.next;
-        print_step(step, transforms, chains, text);
+        print_step(rt, step, transforms, chains, text)?;
         if at >= stream.len() {
-            return session;
+            return Ok(session);
         }
         left -= 1;
     }
-    session
+    Ok(session)
 }
 
-fn print_step(step: Step, transforms: &[f64], chains: &[u8], text: &mut [u8]) -> bool {
-    io::print_decimal(STDOUT_FILENO, step.next as u64);
+fn print_step<P: Print>(
+    rt: &P,
+    step: Step,
+    transforms: &[f64],
+    chains: &[u8],
+    text: &mut [u8],
+) -> io::Result<()> {
+    print!(rt; "{}", step.next)?;
     let reply = step.reply;
     let held = held_of(step.session);
+    let (word, has_lines) = match &reply {
+        Reply::End => (" end\n", false),
+        Reply::Accepted => (" accepted\n", false),
+        Reply::Solved => (" ", true),
+        Reply::Refused(_) => (" ", true),
+    };
+    print!(rt; "{word}")?;
     let length = write_reply(reply, held, transforms, chains, text);
-    match reply {
-        Reply::End => io::write_all(STDOUT_FILENO, b" end\n"),
-        Reply::Accepted => io::write_all(STDOUT_FILENO, b" accepted\n"),
-        Reply::Solved => {
-            io::write_all(STDOUT_FILENO, b" ");
-            io::write_all(STDOUT_FILENO, &text[..length])
-        }
-        Reply::Refused(_) => {
-            io::write_all(STDOUT_FILENO, b" ");
-            io::write_all(STDOUT_FILENO, &text[..length])
-        }
+    if has_lines {
+        rt.write_all(&text[..length])?;
     }
+    Ok(())
 }
 
-fn print_record(session: Session) -> bool {
-    io::write_all(STDOUT_FILENO, b"record");
-    print_field(session.views as u64);
-    print_field(session.cameras as u64);
-    print_field(session.reference as u64);
-    let masks = session.masks;
-    let mut c = 0usize;
-    while c < 16 {
-        print_field(masks[c]);
-        c += 1;
+fn print_record<P: Print>(rt: &P, session: &Session) -> io::Result<()> {
+    print!(rt;
+        "record {:x} {:x} {:x}",
+        session.views, session.cameras, session.reference
+    )?;
+    for mask in session.masks {
+        print!(rt; " {mask:x}")?;
     }
-    io::write_all(STDOUT_FILENO, b"\n")
+    println!(rt)
 }
 
-fn print_summary(session: Session) -> bool {
-    io::write_all(STDOUT_FILENO, b"shared");
-    let shared = session.shared;
-    let mut entry = 0usize;
-    while entry < 256 {
-        print_field(shared[entry] as u64);
-        entry += 1;
+fn print_summary<P: Print>(rt: &P, session: &Session) -> io::Result<()> {
+    print!(rt; "shared")?;
+    for count in session.shared {
+        print!(rt; " {count:x}")?;
     }
-    io::write_all(STDOUT_FILENO, b"\n")
+    println!(rt)
 }
 
-fn print_asked(session: Session, asked: u8, with: u8) -> bool {
-    io::write_all(STDOUT_FILENO, b"asked ");
-    io::print_decimal(STDOUT_FILENO, asked as u64);
-    io::write_all(STDOUT_FILENO, b" ");
-    io::print_decimal(STDOUT_FILENO, with as u64);
-    io::write_all(STDOUT_FILENO, b": ");
-    print_shared(shared_views(session, asked, with));
-    io::write_all(STDOUT_FILENO, b"\n")
-}
-
-fn print_shared(shared: Shared) -> bool {
-    match shared {
-        Shared::Count(count) => io::print_decimal(STDOUT_FILENO, count as u64),
-        Shared::Refused(refusal) => {
-            io::write_all(STDOUT_FILENO, b"no ");
-            io::print_decimal(STDOUT_FILENO, refusal.number() as u64);
-            io::write_all(STDOUT_FILENO, b" ");
-            io::print_decimal(STDOUT_FILENO, refusal.detail() as u64)
-        }
+fn print_asked<P: Print>(rt: &P, session: Session, asked: u8, with: u8) -> io::Result<()> {
+    print!(rt; "asked {asked} {with}: ")?;
+    match shared_views(session, asked, with) {
+        Shared::Count(count) => println!(rt; "{count}"),
+        Shared::Refused(refusal) => { println!(rt; "no {} {}", refusal.number(), refusal.detail()) }
     }
-}
-
-fn print_field(n: u64) -> bool {
-    io::write_all(STDOUT_FILENO, b" ");
-    io::print_hex(STDOUT_FILENO, n, 1)
 }
 
 fn read_case(header: &[u8], summary: [u8; SUMMARY_BYTES]) -> Case
