@@ -2,13 +2,12 @@
 
 No frames, one, the most and drawn ones; every length at which the answer changes, and lengths far beyond what the program can hold, from files and from pipes in uneven
 pieces; the commands piped into rig; inputs that come late or fail; outputs that are slow, full, closed, or that nobody reads. Commands come on standard output, and a
-refusal, or what goes wrong, in one line on standard error: the exit status is 0 unless a signal ends the program.
+refusal, or what goes wrong, in one line on standard error: the exit status is 1 where its input or its output failed, and otherwise 0.
 """
 
 import fcntl
 import os
 import random
-import signal
 import socket
 import subprocess
 import sys
@@ -41,8 +40,9 @@ def expect(what, printed, wanted, told=b'', wanted_told=b'', status=0, wanted_st
         sys.exit('frames: %s: it printed %r.. (%d bytes, and %d were expected), told %r and ended with %d' % (what, printed[:80], len(printed), len(wanted), told, status))
 
 
-def run(what, wanted, wanted_told=b'', wanted_status=0, **descriptors):
-    """The program with these descriptors: what it prints, what it tells on standard error, and how it ends. A status below 0 is a signal."""
+def run(what, wanted, wanted_told=b'', **descriptors):
+    """The program with these descriptors: what it prints, what it tells on standard error, and how it ends: with 1 where its input or its output failed."""
+    wanted_status = int(wanted_told.startswith(b'frames: standard '))
     done = subprocess.run([FRAMES], stderr=subprocess.PIPE, timeout=60, **{'stdout': subprocess.PIPE, **descriptors})
     expect(what, done.stdout or b'', wanted, done.stderr, wanted_told, done.returncode, wanted_status)
 
@@ -212,7 +212,7 @@ def check_outputs():
     # Python ignores SIGPIPE, and hands that on to the program unless it restores it, as it does where nothing is said.
     end, taken = os.pipe()
     os.close(end)
-    run('a pipe that nobody reads', b'', wanted_status=-signal.SIGPIPE, input=packed, stdout=taken)
+    run('a pipe that nobody reads', b'', b'frames: standard output: Broken pipe\n', input=packed, stdout=taken)
     run('a pipe that nobody reads, with SIGPIPE ignored', b'', b'frames: standard output: Broken pipe\n', input=packed, stdout=taken, restore_signals=False)
     os.close(taken)
 
