@@ -1,13 +1,17 @@
 // Reads a stream of commands from standard input, has the session obey them one after the other, and prints what each answers. What cannot be read or
 // written is told on standard error.
+#![tactic(auto)]
+
 ghost use Rattle.session_record.specs.Session.{fresh};
 ghost use Rattle.session_commands.specs.Obeyed.{state};
 ghost use Rattle.rig.specs.AllObeyed.{AllObeyed};
 
-use descriptors::{Input, Output, read_to_end, write_whole};
-use libc::{STDIN_FILENO, STDOUT_FILENO};
+use descriptors::{Input, Output, read_to_end, tell, write_whole};
 use session::{FIRST_FLOATS, MAX_STREAM, SECOND_BYTES};
 use session_record::{BUFFER_FLOATS, Session};
+use std::io::Write;
+use std::process::ExitCode;
+use std::time::Clock;
 use stream_text::obey_stream;
 
 // One byte more than a stream may have, so that a longer one is read far enough to be refused.
@@ -25,27 +29,44 @@ pub struct Obeyed {
 }
 
 // An input that cannot be read to its end is not obeyed at all.
-fn main() {
+fn main(rt: HostRuntime) -> ExitCode {
     let mut input = [0u8; INPUT_BYTES];
-    match read_to_end(STDIN_FILENO, &mut input) {
-        Input::Failed => {
-            os::fail(b"rig: standard input");
+    match read_to_end(&rt, &mut rt.stdin(), &mut input) {
+        Input::Failed(error) => {
+            tell(&rt, "rig: standard input", error);
+            ExitCode::FAILURE
         }
         Input::Whole(length) => {
             let mut buffer = [0.0f64; BUFFER_FLOATS];
             let mut transforms = [0.0f64; FIRST_FLOATS];
             let mut chains = [0u8; SECOND_BYTES];
-            let obeyed = obey_all(&input[..length], &mut buffer, &mut transforms, &mut chains);
-            if !obeyed.written {
-                os::fail(b"rig: standard output");
+            let obeyed = obey_all(
+                &rt,
+                &mut rt.stdout(),
+                &input[..length],
+                &mut buffer,
+                &mut transforms,
+                &mut chains,
+            );
+            if obeyed.written {
+                ExitCode::SUCCESS
+            } else {
+                ExitCode::FAILURE
             }
         }
     }
 }
 
 // The whole stream obeyed from a fresh session on, in calls that each print what the text holds: the calls that `rounds_from` of crates/claims_printing tells of.
-// Which bytes are written, no contract can say, but how many. An output that cannot be written to ends the stream.
-fn obey_all(stream: &[u8], buffer: &mut [f64], transforms: &mut [f64], chains: &mut [u8]) -> Obeyed
+// Which bytes are written, no contract can say, but how many. An output that cannot be written to is told, and ends the stream.
+fn obey_all<R: Clock + Eprint + Alloc, W: Write>(
+    rt: &R,
+    output: &mut W,
+    stream: &[u8],
+    buffer: &mut [f64],
+    transforms: &mut [f64],
+    chains: &mut [u8],
+) -> Obeyed
     ensures { AllObeyed (state fresh buffer.old transforms.old chains.old) stream.now result buffer.new transforms.new chains.new }
 {
     let mut text = [0u8; TEXT_BYTES];
@@ -58,8 +79,9 @@ fn obey_all(stream: &[u8], buffer: &mut [f64], transforms: &mut [f64], chains: &
         session = part.session;
         at = part.next;
         let length = part.length;
-        match write_whole(STDOUT_FILENO, &text[..length]) {
-            Output::Failed => {
+        match write_whole(rt, output, &text[..length]) {
+            Output::Failed(error) => {
+                tell(rt, "rig: standard output", error);
                 return Obeyed {
                     session: session,
                     written: false,
