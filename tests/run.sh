@@ -13,8 +13,9 @@ sh tests/statements.sh
 rt ci 2>&1 | tee "$log" | sed -u '/^[0-9]* passed, [0-9]* failed$/d' || { grep 'passed, [1-9][0-9]* failed$' "$log" || echo "tests: rt ci failed"; exit 1; }
 verdict=$(tail -n 1 "$log")
 if grep -qE '^rt: ok.*, [0-9]+ bad' "$log"; then echo "tests: must-fail edits are bad"; exit 1; fi
-mkdir -p target
 sh tests/edits.sh "$log"
+mkdir -p target/bin
+cp crates/rig/out/rig crates/frames/out/frames target/bin/
 
 if command -v python3 >/dev/null 2>&1; then
   sh tests/rig.sh
