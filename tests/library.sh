@@ -4,7 +4,7 @@ set -eu
 root=$(cd "$(dirname "$0")/.." && pwd)
 [ $# -eq 1 ] || { echo "usage: $0 NAME" >&2; exit 2; }
 archive=$root/target/staticlib/lib$1.a
-if [ -f "$archive" ] && [ -z "$(find "$root/crates.txt" "$root/crates" -type f \( -name crates.txt -o -name '*.rt' -o -name '*.antt' \) -newer "$archive" | head -n 1)" ]; then
+if [ -f "$archive" ] && [ -z "$(find "$root/crates.txt" "$root/crates" -name out -prune -o -type f \( -name crates.txt -o -name '*.rt' -o -name '*.antt' \) -newer "$archive" -print | head -n 1)" ]; then
     exit 0
 fi
 command -v rt >/dev/null || { echo "no $archive, and no rt to make it" >&2; exit 2; }

@@ -4,7 +4,7 @@ set -eu
 root=$(cd "$(dirname "$0")/.." && pwd)
 [ $# -ge 1 ] || { echo "usage: $0 NAME..." >&2; exit 2; }
 mkdir -p "$root/target/bin"
-fresh() { [ -x "$1" ] && [ -z "$(find "$root/crates.txt" "$root/crates" -type f \( -name crates.txt -o -name '*.rt' -o -name '*.antt' \) -newer "$1" | head -n 1)" ]; }
+fresh() { [ -x "$1" ] && [ -z "$(find "$root/crates.txt" "$root/crates" -name out -prune -o -type f \( -name crates.txt -o -name '*.rt' -o -name '*.antt' \) -newer "$1" -print | head -n 1)" ]; }
 for name in "$@"; do
     program=$root/target/bin/$name
     made=$root/crates/$name/out/$name
