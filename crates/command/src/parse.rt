@@ -20,7 +20,7 @@ pub const SOLVE_WIDTH: usize = 1;
 pub const WITHDRAW_WIDTH: usize = 3;
 
 // A whole command, one that the stream ends within, or a byte that begins none.
-#[derive(Drop)]
+#[derive(Clone, Copy)]
 pub enum Parsed {
     Size,
     Place,

@@ -19,7 +19,7 @@ use placing::write_solved;
 use refusal::Refusal;
 
 // What an estimate answers. The poses of a solved rig stand in the lent answers.
-#[derive(Drop)]
+#[derive(Clone, Copy)]
 pub enum Outcome {
     Refused(Refusal),
     Solved,

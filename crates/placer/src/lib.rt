@@ -78,7 +78,7 @@ pub fn placer_step(
     let step = obey(read_record(session), stream, at, buffer, transforms, chains);
     let after = step.session;
     let reply = step.reply;
-    keep_record(&reply, after, session);
+    keep_record(reply, after, session);
     *next = step.next;
     reply_code(reply)
 }

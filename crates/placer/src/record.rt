@@ -22,9 +22,9 @@ pub fn not_a_record(stream: usize) -> Refusal
 }
 
 // The record after a call: only an accepted command changes the session, and after any other reply the words are not written at all.
-pub fn keep_record(reply: &Reply, session: Session, words: &mut [u64])
+pub fn keep_record(reply: Reply, session: Session, words: &mut [u64])
     requires { length words.old ≡ record_words }
-    ensures { words.new ≡ words_kept reply.now session words.old }
+    ensures { words.new ≡ words_kept reply session words.old }
 {
     if let Reply::Accepted = reply {
         write_record(session, words);

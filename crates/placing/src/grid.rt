@@ -7,7 +7,7 @@ use arithmetic::pose::Pose;
 use limits::{MAX_CAMERAS, POSE_FLOATS};
 
 // What one view holds of one camera: nothing, or the target's pose T_C_T.
-#[derive(Drop)]
+#[derive(Clone, Copy)]
 pub enum Cell {
     Empty,
     Held(Pose),

@@ -13,7 +13,7 @@ use crate::commands::obey_command;
 use inputs::Checked;
 use limits::{CHAIN_BYTES, MAX_CAMERAS, MAX_VIEWS, POSE_FLOATS};
 use refusal::Refusal;
-use session_commands::Reply;
+pub use session_commands::{Reply, Turn};
 use session_record::check::is_possible;
 use session_record::{BUFFER_FLOATS, Session, held_of, session_of};
 
@@ -26,7 +26,7 @@ pub const FIRST_FLOATS: usize = POSE_FLOATS * (MAX_CAMERAS + MAX_VIEWS);
 pub const SECOND_BYTES: usize = CHAIN_BYTES * MAX_CAMERAS;
 
 // The reply, the session after it, and the offset of the next command.
-#[derive(Drop)]
+#[derive(Clone, Copy)]
 pub struct Step {
     pub session: Session,
     pub reply: Reply,

@@ -13,7 +13,7 @@ use refusal::Refusal;
 use session_record::Held;
 
 // What a call of `session` answers; a command never answers End.
-#[derive(Drop)]
+#[derive(Clone, Copy)]
 pub enum Reply {
     // The offset is the stream's length.
     End,
@@ -25,7 +25,7 @@ pub enum Reply {
 }
 
 // What a command hands on: the reply, what is held after it, and the offset of the next command. The summary stands apart from it.
-#[derive(Drop)]
+#[derive(Clone, Copy)]
 pub struct Turn {
     pub held: Held,
     pub reply: Reply,

@@ -20,7 +20,7 @@ use session_commands::Reply;
 use session_record::{Held, Session, held_of, session_of};
 
 // The session after the commands obeyed, whether the text was refused, the offset of the next command, and the bytes of the text in use.
-#[derive(Drop)]
+#[derive(Clone, Copy)]
 pub struct StreamText {
     pub session: Session,
     pub refused: Checked,

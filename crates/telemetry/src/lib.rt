@@ -24,7 +24,7 @@ pub const MAX_FRAMES: usize = 1024;
 pub const MAX_BYTES: usize = FRAME_BYTES * MAX_FRAMES;
 
 // What the entry answers.
-#[derive(Drop)]
+#[derive(Clone, Copy)]
 pub enum Imported {
     Refused(Refusal),
     // All frames are commands now, so many.

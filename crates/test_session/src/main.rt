@@ -186,12 +186,12 @@ fn print_step<P: Print>(
 }
 
 fn print_record<P: Print>(rt: &P, session: &Session) -> io::Result<()> {
-    print!(rt;
-        "record {:x} {:x} {:x}",
-        session.views, session.cameras, session.reference
-    )?;
+    print!(rt; "record")?;
+    print_field(rt, session.views as u64)?;
+    print_field(rt, session.cameras as u64)?;
+    print_field(rt, session.reference as u64)?;
     for mask in session.masks {
-        print!(rt; " {mask:x}")?;
+        print_field(rt, mask)?;
     }
     println!(rt)
 }
@@ -199,17 +199,26 @@ fn print_record<P: Print>(rt: &P, session: &Session) -> io::Result<()> {
 fn print_summary<P: Print>(rt: &P, session: &Session) -> io::Result<()> {
     print!(rt; "shared")?;
     for count in session.shared {
-        print!(rt; " {count:x}")?;
+        print_field(rt, count as u64)?;
     }
     println!(rt)
 }
 
 fn print_asked<P: Print>(rt: &P, session: Session, asked: u8, with: u8) -> io::Result<()> {
     print!(rt; "asked {asked} {with}: ")?;
-    match shared_views(session, asked, with) {
-        Shared::Count(count) => println!(rt; "{count}"),
-        Shared::Refused(refusal) => { println!(rt; "no {} {}", refusal.number(), refusal.detail()) }
+    print_shared(rt, shared_views(session, asked, with))?;
+    println!(rt)
+}
+
+fn print_shared<P: Print>(rt: &P, shared: Shared) -> io::Result<()> {
+    match shared {
+        Shared::Count(count) => print!(rt; "{count}"),
+        Shared::Refused(refusal) => print!(rt; "no {} {}", refusal.number(), refusal.detail()),
     }
+}
+
+fn print_field<P: Print>(rt: &P, n: u64) -> io::Result<()> {
+    print!(rt; " {n:x}")
 }
 
 fn read_case(header: &[u8], summary: [u8; SUMMARY_BYTES]) -> Case

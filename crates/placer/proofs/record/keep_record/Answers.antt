@@ -21,4 +21,4 @@ unfolding words_kept
 returns-in-Accepted c = c.write_record.ensures ∙ simp c.in-Accepted.is
 
 pub returns-in_default : goal.returns-in_default
-returns-in_default c = unwritten c.args.reply.now c.args.session c.args.words.now c.in_default.not-Accepted
+returns-in_default c = unwritten c.args.reply c.args.session c.args.words.now c.in_default.not-Accepted
