@@ -6,7 +6,7 @@ ghost use Rattle.std.specs.Prelude.{◌-◌, ◌≤◌, length};
 ghost use Rattle.std.specs.Io.{StartsWith};
 ghost use Rattle.descriptors.specs.Moved.{MovedWithin, ReadWithin, WrittenWhole};
 
-use std::io::{Error, ErrorKind, Read, Write};
+use std::io::{Cursor, Error, ErrorKind, Read, Write};
 use std::time::{Clock, Duration};
 use std::{io, thread};
 
@@ -43,6 +43,9 @@ const MOST_CALLS: u64 = 9223372036854775807;
 
 // How long is waited for a stream that is not ready, so that waiting leaves the processor to others: a millisecond.
 const PAUSE_NANOSECONDS: u64 = 1000000;
+
+// More than the system's words for a failure take.
+const WORDS_BYTES: usize = 300;
 
 fn pause<C: Clock>(clock: &C) {
     thread::sleep(clock, Duration::from_nanos(PAUSE_NANOSECONDS));
@@ -130,15 +133,15 @@ pub fn write_whole<C: Clock, W: Write>(clock: &C, output: &mut W, bytes: &[u8]) 
     Output::Whole(done)
 }
 
-// Tells on standard error, in one line, what failed, and why, in the system's words. Where there is no memory for them, their number stands behind.
-pub fn tell<R: Eprint + Alloc>(rt: &R, what: &str, error: Error) {
-    let _told = match format!(in rt.alloc(); "{error}") {
-        Ok(text) => {
-            let words = without_number(text.as_str());
-            eprintln!(rt; "{what}: {words}")
-        }
-        Err(_) => eprintln!(rt; "{what}: {error}"),
-    };
+// Tells on standard error, in one line, what failed, and why, in the system's words.
+pub fn tell<R: Eprint>(rt: &R, what: &str, error: Error) {
+    let mut words = Cursor::new([0u8; WORDS_BYTES]);
+    let _whole = write!(words, "{error}");
+    let length = WORDS_BYTES.min(words.position() as usize);
+    let room = words.into_inner();
+    let text = str::from_utf8(&room[..length]).unwrap_or("");
+    let reason = without_number(text);
+    let _told = eprintln!(rt; "{what}: {reason}");
 }
 
 // The words of a failure, without the number that std puts behind what the system says.

@@ -63,11 +63,7 @@ fn main(rt: HostRuntime) -> ExitCode {
 }
 
 // The whole input: where it is longer than any that passes, what is kept is refused alike. An input that fails is told.
-fn read_frames<R: Clock + Eprint + Alloc, I: Read>(
-    rt: &R,
-    input: &mut I,
-    memory: &mut [u8],
-) -> Reading
+fn read_frames<R: Clock + Eprint, I: Read>(rt: &R, input: &mut I, memory: &mut [u8]) -> Reading
     requires { length memory.old ≡ input_bytes }
     ensures { Taken result }
 {

@@ -59,7 +59,7 @@ fn main(rt: HostRuntime) -> ExitCode {
 
 // The whole stream obeyed from a fresh session on, in calls that each print what the text holds: the calls that `rounds_from` of crates/claims_printing tells of.
 // Which bytes are written, no contract can say, but how many. An output that cannot be written to is told, and ends the stream.
-fn obey_all<R: Clock + Eprint + Alloc, W: Write>(
+fn obey_all<R: Clock + Eprint, W: Write>(
     rt: &R,
     output: &mut W,
     stream: &[u8],
