@@ -43,7 +43,7 @@ BESIDE = [
     ("averaging.Entry", "averaged_of"),
     ("chains.Layered", "Layered"),
     ("chains.Masks", "views_of_both shared_by"),
-    ("refusal.Table", "number_of detail_of"),
+    ("refusal.Table", "number_of detail_of text_of"),
     ("extrinsics.Direct", "Direct"),
     ("placing.Estimate", "rig_se3_cam rig_se3_target target_candidates"),
     ("inputs.Inputs", "checked_of"),
@@ -52,6 +52,7 @@ BESIDE = [
     ("command.Writing", "bytes_of OfDoubles OfBytes"),
     ("telemetry.Frames", "imported_of import_leaves RefusedAlike max_bytes kept_length"),
     ("shared_query.Query", "shared_answer"),
+    ("session_commands.Reply", "Edited"),
     ("session.Call", "Called"),
     ("claims_direct.Encoding", "Agrees"),
     ("claims_streams.Stream", "Reads EndsAt struck earlier Usable last_state"),
@@ -67,10 +68,11 @@ BESIDE = [
     ("claims_printing.TextDemand", "TextDemand"),
     ("rig.AllObeyed", "AllObeyed"),
     ("frames.Told", "Told Taken"),
+    ("record_words.Words", "record_in"),
     ("placer.Exports", "AveragedInto Estimated shared_reply ImportedInto"),
     ("placer.Step", "Stepped"),
     ("placer.Reading", "DirectReply CallReply NoRecordReply outcome_in reply_in shared_in imported_in"),
-    ("descriptors.Moved", "ReadWithin MovedWithin WrittenWhole"),
+    ("descriptors.Moved", "ReadWithin WrittenWhole IsTold"),
 ]
 # Rows are what definitions are checked against, and crates of tests are nobody's promise.
 CHECKS = re.compile(r"^(test_|claims_cases/|claims_rows/|claims_summary_rows/)|/Rows\.antt$|/Lib\.antt$|/Inner\.antt$")

@@ -1,6 +1,6 @@
 #!/usr/bin/env python3
 """Holds the table "Conditions on callers" of docs/STATEMENTS.md to the code: it names every function that another crate can call and that has a
-`requires`, and no other. Needs nothing but python3."""
+`requires`, and every type that another crate can make and that has an invariant, and no other. Needs nothing but python3."""
 
 import pathlib
 import re
@@ -16,14 +16,21 @@ def visible(path):
 
 
 def with_conditions(path):
-    owner, name, asks = "", None, False
+    """Functions, methods behind their type's name, that have a `requires`; and types with an invariant, which whoever makes one has to meet."""
+    owner, name, asks, made = "", None, False, None
     for line in path.read_text().splitlines():
-        begun = re.match(r"impl (\w+) \{", line)
+        begun = re.match(r"impl(?:<.*?>)? (\w+)(?:<.*?>)? \{", line)
         if begun:
             owner = begun.group(1) + "::"
         elif line == "}":
-            owner = "" if name is None else owner
-        found = re.match(r'\s*pub (?:extern "C" )?fn (\w+)\(', line)
+            owner, made = "" if name is None else owner, None
+        struct = re.match(r"pub struct (\w+)", line)
+        if struct:
+            made = struct.group(1)
+        if made is not None and re.match(r"\s+ghost \w+: \{", line):
+            yield made
+            made = None
+        found = re.match(r'\s*pub (?:extern "C" )?fn (\w+)[(<]', line)
         if found:
             name, asks = owner + found.group(1), False
         if name is not None and line.strip().startswith("requires "):
@@ -47,7 +54,7 @@ def main():
     for name in sorted(named - asked):
         print(f"conditions: the table names {name}, which asks nothing of another crate")
     if asked == named:
-        print(f"conditions: the {len(asked)} functions with a condition that another crate can call are those of the table")
+        print(f"conditions: the {len(asked)} functions and types that ask something of another crate are those of the table")
     sys.exit(asked != named)
 
 

@@ -31,7 +31,7 @@ cases() { sed -n "s/.*$1::\([A-Za-z]*\)[^=]*=> \([0-9][0-9]*\),.*/\1 \2/p" | sed
 defined() { sed -n 's/^#define \(PLACER_[A-Z_]*\) \([0-9][0-9]*\).*/\1 \2/p' "$include/placer.h"; }
 
 sed -n '/fn number(/,/fn detail(/p' crates/refusal/src/lib.rt | cases Refusal >"$work/refusals"
-sed -n '/fn reply_code(/,$p' crates/placer/src/code.rt | cases Reply >"$work/replies"
+sed -n '/fn reply_code(/,$p' crates/placer/src/code.rt | cases Done >"$work/replies"
 # The bytes of a command are its width in the sources.
 defined | cut -d' ' -f1 | grep -vxF "$(cut -d' ' -f1 "$work/replies")" | while read -r name; do
     case $name in PLACER_POSE_BYTES) source=POSE_WIDTH ;; *) source=${name#PLACER_} ;; esac

@@ -4,7 +4,7 @@ use Rattle.std.specs.Prelude.{ℕ, ◌+◌, Bool, ◌&&◌, List, [], ◌∷◌,
 use Rattle.std.specs.Float.{nan}
 use Rattle.std.specs.Float.Ieee.{neg}
 use Rattle.std.specs.Float.Ieee.Scale.{finite}
-use Rattle.arithmetic.specs.Double.{◌⊕◌, ◌⊖◌, ◌⊗◌, Zero, One, Two}
+use Rattle.arithmetic.specs.Double.{◌⊕◌, ◌⊖◌, ◌⊗◌, ◌⊘◌, Zero, One, Two}
 use Rattle.arithmetic.specs.declared.pose.Vec3.{Vec3}
 use Rattle.arithmetic.specs.declared.pose.Quaternion.{Quaternion}
 use Rattle.arithmetic.specs.declared.pose.Pose.{Pose}
@@ -23,6 +23,9 @@ add_vec a b = vec3 (a.x ⊕ b.x) (a.y ⊕ b.y) (a.z ⊕ b.z)
 abbrev pub scale_vec : Float → Vec3 → Vec3
 scale_vec s a = vec3 (s ⊗ a.x) (s ⊗ a.y) (s ⊗ a.z)
 
+abbrev pub over_vec : Vec3 → Float → Vec3
+over_vec v s = vec3 (v.x ⊘ s) (v.y ⊘ s) (v.z ⊘ s)
+
 abbrev pub neg_vec : Vec3 → Vec3
 neg_vec a = vec3 (neg a.x) (neg a.y) (neg a.z)
 
@@ -39,6 +42,15 @@ identity_quat = quaternion Zero Zero Zero One
 
 abbrev pub vector_part : Quaternion → Vec3
 vector_part q = vec3 q.i q.j q.k
+
+abbrev pub add_quat : Quaternion → Quaternion → Quaternion
+add_quat p q = quaternion (p.i ⊕ q.i) (p.j ⊕ q.j) (p.k ⊕ q.k) (p.w ⊕ q.w)
+
+abbrev pub times_quat : Quaternion → Float → Quaternion
+times_quat q s = quaternion (q.i ⊗ s) (q.j ⊗ s) (q.k ⊗ s) (q.w ⊗ s)
+
+abbrev pub over_quat : Quaternion → Float → Quaternion
+over_quat q s = quaternion (q.i ⊘ s) (q.j ⊘ s) (q.k ⊘ s) (q.w ⊘ s)
 
 -- Hamilton's product, each number summed from left to right.
 abbrev pub mul_quat : Quaternion → Quaternion → Quaternion

@@ -1,4 +1,3 @@
--- Laws that belong to no one function, a file a topic: what is gathered of a list and the outcome of averaging. Assumes nothing.
-pub mod Gathering
+-- Laws that belong to no one function: those of the outcome, and that the rows hold. Assumes nothing.
 pub mod Outcomes
 pub mod Rows

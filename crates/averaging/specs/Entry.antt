@@ -1,7 +1,7 @@
 -- The public averaging entry, by document 01, "Averaging": "It refuses an empty list with 1, more than 64 with 2, and a non-finite
 -- number with 7, detail being the lowest pose." Rests on the average of `mean` and the table of `refusal`.
 use Rattle.std.specs.Prelude.{ℕ, Bool, not, List, [], ◌∷◌, length, get_or, eqb, ltb}
-use Rattle.std.proofs.Math.Option.{Option, none, some}
+use Rattle.std.specs.Prelude.{Option, None, Some}
 use Rattle.mean.specs.Average.{average_isometries}
 use Rattle.arithmetic.specs.Pose.{finite_pose, nowhere}
 use Rattle.arithmetic.specs.declared.pose.Pose.{Pose}
@@ -9,8 +9,7 @@ use Rattle.refusal.specs.Table.{refuse_if, refuse_at, first_of}
 use Rattle.refusal.specs.declared.Refusal.{Refusal}
 use Rattle.refusal.specs.declared.Refusal.TheVariants.{InsufficientData, TooMany, NotFinite}
 use Rattle.lists.specs.Finding.{lowest}
-use Rattle.averaging.specs.declared.Averaged.{Averaged}
-use Rattle.averaging.specs.declared.Averaged.TheVariants.{Refused, Mean}
+use Rattle.std.specs.Prelude.{Result, Err, Ok}
 
 -- The most poses that one average takes.
 abbrev pub max_poses : ℕ
@@ -34,9 +33,13 @@ average_refusal l =
     ∷ refuse_at (lowest_not_finite l) NotFinite
     ∷ [])
 
+-- A mean, or what is refused.
+abbrev pub Averaged : Type 0
+Averaged = Result Pose Refusal
+
 unfoldable pub averaged_by : Option Refusal → Pose → Averaged
-averaged_by (some r) mean = Refused r
-averaged_by none mean = Mean mean
+averaged_by (Some r) mean = Err r
+averaged_by None mean = Ok mean
 
 -- What the entry answers.
 unfoldable pub averaged_of : List Pose → Averaged

@@ -1,4 +1,3 @@
 -- The definitions that the contracts of `averaging` cite. Definitions only; their laws are in proofs/.
 pub mod Entry
 pub mod Rows
-pub mod Inner

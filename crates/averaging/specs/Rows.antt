@@ -2,7 +2,7 @@
 -- and a non-finite number with 7, detail being the lowest pose." The numbers and details are worked out by hand from that sentence, and the limit is
 -- written as a number, not by the name that the definitions use. Rests on the entry.
 use Rattle.std.specs.Prelude.{ℕ, List, [], ◌∷◌, ◌++◌, replicate, Float}
-use Rattle.std.proofs.Math.Option.{Option, none, some}
+use Rattle.std.specs.Prelude.{Option, None, Some}
 use Rattle.std.specs.Float.{binary64}
 use Rattle.std.specs.Float.Ieee.{of_bits}
 use Rattle.arithmetic.specs.Pose.{vec3, quaternion, pose}
@@ -20,8 +20,8 @@ abbrev tells : List Pose → List ℕ → Row
 tells p t = record { poses = p; told = t }
 
 unfoldable pub told_by : Option Refusal → List ℕ
-told_by none = []
-told_by (some r) = number_of r ∷ detail_of r ∷ []
+told_by None = []
+told_by (Some r) = number_of r ∷ detail_of r ∷ []
 
 -- What the definition tells of each row's list; and what the rows say.
 unfoldable pub all_told : List Row → List (List ℕ)

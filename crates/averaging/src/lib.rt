@@ -1,45 +1,41 @@
 // The public averaging entry: the average of a lent list of pose records, or why there is none.
 #![tactic(auto)]
 
-ghost use Rattle.std.specs.Prelude.{◌≡◌};
-ghost use Rattle.averaging.specs.Entry.{averaged_of};
-ghost use Rattle.averaging.specs.Inner.Gathered.{AnswersFor};
+ghost use Rattle.std.specs.Prelude.{◌≤◌, ◌≡◌, length};
+ghost use Rattle.mean.specs.Average.{average_isometries};
+ghost use Rattle.averaging.specs.Entry.{max_poses, averaged_of};
 
-pub mod list;
-
-use crate::list::{Gathered, MOST_POSES, read_poses};
-use arithmetic::pose::Pose;
-use inputs::Found;
+use arithmetic::pose::{Finite, Pose};
+use mean::Average;
 use refusal::Refusal;
 
-// What averaging answers.
-#[derive(Clone, Copy)]
-pub enum Averaged {
-    Refused(Refusal),
-    Mean(Pose),
-}
+// The most poses that one average takes: one for each view of a rig.
+pub const MOST_POSES: usize = 64;
 
-// The average of a list, by what was gathered of it.
-pub fn average_list(list: Gathered) -> Averaged
-    ensures { AnswersFor list result }
+fn average(poses: &[Pose]) -> Pose
+    requires { length poses.now ≤ max_poses }
+    ensures { result ≡ average_isometries poses.now }
 {
-    let count = list.count;
-    if count == 0 {
-        return Averaged::Refused(Refusal::InsufficientData);
+    let mut sum = Average::new();
+    for pose in poses {
+        sum = sum.add(*pose);
     }
-    if MOST_POSES < count {
-        return Averaged::Refused(Refusal::TooMany);
-    }
-    let bad = list.bad;
-    match bad {
-        Found::At(i) => Averaged::Refused(Refusal::NotFinite(i)),
-        Found::Nothing => Averaged::Mean(list.sum.mean()),
-    }
+    sum.mean()
 }
 
 // The average of lent pose records.
-pub fn average_isometries(poses: &[Pose]) -> Averaged
+#[tactic(auto, unfolding(crate::specs::Entry::averaged_of))]
+pub fn average_isometries(poses: &[Pose]) -> Result<Pose, Refusal>
     ensures { result ≡ averaged_of poses.now }
 {
-    average_list(read_poses(poses))
+    if poses.is_empty() {
+        return Err(Refusal::InsufficientData);
+    }
+    if MOST_POSES < poses.len() {
+        return Err(Refusal::TooMany);
+    }
+    if let Some(place) = poses.iter().position(|pose| !pose.is_finite()) {
+        return Err(Refusal::NotFinite(place as u32));
+    }
+    Ok(average(poses))
 }

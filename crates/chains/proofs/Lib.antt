@@ -5,9 +5,10 @@ pub mod Walks
 pub mod Theorem
 pub mod Reports
 pub mod Bits
+pub mod Places
+pub mod Passing
 pub mod Searching
 pub mod Turning
 pub mod Reaching
-pub mod TreeBytes
 pub mod Reading
 pub mod Examples

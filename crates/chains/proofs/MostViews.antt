@@ -5,7 +5,7 @@ use native.Mathlib.Omega.{arith}
 use mathlib.Core.Path.{◌≡◌, refl, sym, ap, ◌∙◌, subst}
 use mathlib.Core.Logic.{⊎_elim}
 use mathlib.Core.Bool.{Bool, true, false, cond}
-use mathlib.Core.Option.{Option, none, some}
+use Rattle.std.specs.Prelude.{Option, None, Some}
 use lib.Dec.{T, ltb}
 use borrow.Author.Tests.{ltb-true, ltb-false}
 use Rattle.chains.specs.Layers.{take_if_more, most_views}
@@ -21,26 +21,26 @@ pub record MostOf (test : ℕ → Bool) (views : ℕ → ℕ) (m p : ℕ) : Type
   pub beats : (q : ℕ) → q < m → T (test q) → Beats views p q
 
 abbrev pub Found : (ℕ → Bool) → (ℕ → ℕ) → ℕ → Option ℕ → Type 0
-Found test views m none = (q : ℕ) → q < m → T (test q) → ⊥
-Found test views m (some p) = MostOf test views m p
+Found test views m None = (q : ℕ) → q < m → T (test q) → ⊥
+Found test views m (Some p) = MostOf test views m p
 
 module _ (test : ℕ → Bool) (views : ℕ → ℕ) where
   found_more : (m : ℕ) (t : Bool) → test m ≡ t → (o : Option ℕ) → Found test views m o → Found test views (suc m) (take_if_more t m views o)
   unfolding take_if_more
-  found_more m false e none h = λ q l k. ⊎_elim (λ s. subst T (ap test s ∙ e) k) (λ j. h q j k) (eq-or-lt_of_le (le_of_suc-le-suc l))
-  found_more m false e (some p) h = record {
+  found_more m false e None h = λ q l k. ⊎_elim (λ s. subst T (ap test s ∙ e) k) (λ j. h q j k) (eq-or-lt_of_le (le_of_suc-le-suc l))
+  found_more m false e (Some p) h = record {
     below = omega (arith, h.below);
     passes = h.passes;
     beats = λ q l k. ⊎_elim (λ s. absurd (subst T (ap test s ∙ e) k)) (λ j. h.beats q j k) (eq-or-lt_of_le (le_of_suc-le-suc l));
   }
-  found_more m true e none h = record {
+  found_more m true e None h = record {
     below = omega arith;
     passes = subst T (sym e) tt;
     beats = λ q l k. ⊎_elim (λ s. omega (arith, ap views s)) (λ j. absurd (h q j k)) (eq-or-lt_of_le (le_of_suc-le-suc l));
   }
-  found_more m true e (some p) h = go (ltb (views p) (views m)) refl
+  found_more m true e (Some p) h = go (ltb (views p) (views m)) refl
     where
-      go : (t : Bool) → ltb (views p) (views m) ≡ t → Found test views (suc m) (cond t (some m) (some p))
+      go : (t : Bool) → ltb (views p) (views m) ≡ t → Found test views (suc m) (cond t (Some m) (Some p))
       go true g = record {
         below = omega arith;
         passes = subst T (sym e) tt;
@@ -75,7 +75,7 @@ most_views_agree s t u v (suc m) h k =
     (go (s m) refl (most_views s u m) (most_views_found s u m))
   where
     go : (b : Bool) → s m ≡ b → (o : Option ℕ) → Found s u m o → take_if_more b m u o ≡ take_if_more b m v o
-    go false e none f = refl
-    go false e (some p) f = refl
-    go true e none f = refl
-    go true e (some p) f = rw (k m (omega arith) (subst T (sym e) tt), k p (omega (arith, f.below)) f.passes)
+    go false e None f = refl
+    go false e (Some p) f = refl
+    go true e None f = refl
+    go true e (Some p) f = rw (k m (omega arith) (subst T (sym e) tt), k p (omega (arith, f.below)) f.passes)

@@ -8,7 +8,7 @@ use native.Mathlib.Omega.{arith}
 use mathlib.Core.Path.{◌≡◌, refl, sym, ap, ◌∙◌, subst}
 use mathlib.Core.Logic.{◌≢◌}
 use mathlib.Core.Bool.{Bool, true, false, cond, not, ◌&&◌, true≢false}
-use mathlib.Core.Option.{Option, none, some}
+use Rattle.std.specs.Prelude.{Option, None, Some}
 use lib.ListN.{length}
 use lib.Seq.{ext_get_or}
 use lib.Dec.{T, leb, eqb, eqb→eq, leb→le}
@@ -111,7 +111,7 @@ module _ (cameras : ℕ) (w : ℕ → ℕ → ℕ) (least reference : ℕ) where
     pub shares : least ≤ w c p
     pub beats : (q r : ℕ) → q < cameras → spot k q ≡ placed r k → c ≢ q → least ≤ w c q → Beats (w c) p q
 
-  pub offer_some : (k c p : ℕ) → offer k c ≡ some p → Offered k c p
+  pub offer_some : (k c p : ℕ) → offer k c ≡ Some p → Offered k c p
   unfolding parent_in_layer
   offer_some k c p e =
       let m : MostOf (linked_in_layer w least (spot k) k c) (w c) cameras p =
@@ -125,7 +125,7 @@ module _ (cameras : ℕ) (w : ℕ → ℕ → ℕ) (least reference : ℕ) where
         beats = λ q r h f n l. m.beats q h (parts_linked_in_layer w least (spot k) k c q r f n l);
       }
 
-  pub offer_none : (k c : ℕ) → offer k c ≡ none → (p q : ℕ) → p < cameras → spot k p ≡ placed q k → c ≢ p → least ≤ w c p → ⊥
+  pub offer_none : (k c : ℕ) → offer k c ≡ None → (p q : ℕ) → p < cameras → spot k p ≡ placed q k → c ≢ p → least ≤ w c p → ⊥
   unfolding parent_in_layer
   offer_none k c e p q h f n l =
       subst (Found (linked_in_layer w least (spot k) k c) (w c) cameras) e (most_views_found (linked_in_layer w least (spot k) k c) (w c) cameras)
@@ -167,10 +167,10 @@ module _ (cameras : ℕ) (w : ℕ → ℕ → ℕ) (least reference : ℕ) where
   came (suc k) c h = subst (Came (suc k) c) (sym (spot_suc k c h)) (go (spot k c) refl (came k c h) (offer k c) refl)
     where
       go : (s : Spot) → spot k c ≡ s → Came k c s → (o : Option ℕ) → offer k c ≡ o → Came (suc k) c (next_spot k s o)
-      go (placed p d) es g none eo = (omega (arith, g.0), g.1, g.2)
-      go (placed p d) es g (some q) eo = (omega (arith, g.0), g.1, g.2)
-      go not_placed es g none eo = tt
-      go not_placed es g (some p) eo = (omega arith, spot_suc k c h ∙ rw (es, eo), (es, offer_some k c p eo))
+      go (placed p d) es g None eo = (omega (arith, g.0), g.1, g.2)
+      go (placed p d) es g (Some q) eo = (omega (arith, g.0), g.1, g.2)
+      go not_placed es g None eo = tt
+      go not_placed es g (Some p) eo = (omega arith, spot_suc k c h ∙ rw (es, eo), (es, offer_some k c p eo))
 
   pub placed_came : (k c p d : ℕ) → c < cameras → spot k c ≡ placed p d → (d ≤ k) × (spot d c ≡ placed p d) × Reason d c p
   placed_came k c p d h e = subst (Came k c) e (came k c h)
@@ -183,13 +183,6 @@ module _ (cameras : ℕ) (w : ℕ → ℕ → ℕ) (least reference : ℕ) where
       go : (d : ℕ) → Reason d c p → (e : ℕ) × (d ≡ suc e) × (spot e c ≡ not_placed) × Offered e c p
       go zero r = absurd (n r.0)
       go (suc e) r = (e, refl, r.0, r.1)
-
-  pub parent-below-cameras : (k c p d : ℕ) → c < cameras → spot k c ≡ placed p d → p < cameras
-  parent-below-cameras k c p d h e = go d (placed_came k c p d h e).2
-    where
-      go : (d : ℕ) → Reason d c p → p < cameras
-      go zero r = omega (arith, r.0, r.1)
-      go (suc e) r = r.1.inside
 
   -- A layer's number is below the number of cameras: each layer before it has placed at least one.
   layer_count : (d c p : ℕ) → c < cameras → spot d c ≡ placed p d → d < count (λ i. is_placed (spot d i)) cameras
@@ -237,10 +230,10 @@ module _ (cameras : ℕ) (w : ℕ → ℕ → ℕ) (least reference : ℕ) where
   spot_unchanged n empty c h = go (spot n c) refl (offer n c) refl
     where
       go : (s : Spot) → spot n c ≡ s → (o : Option ℕ) → offer n c ≡ o → spot (suc n) c ≡ spot n c
-      go (placed p d) e none f = spot_suc n c h ∙ rw e
-      go (placed p d) e (some q) f = spot_suc n c h ∙ rw e
-      go not_placed e none f = spot_suc n c h ∙ rw (e, f)
-      go not_placed e (some p) f =
+      go (placed p d) e None f = spot_suc n c h ∙ rw e
+      go (placed p d) e (Some q) f = spot_suc n c h ∙ rw e
+      go not_placed e None f = spot_suc n c h ∙ rw (e, f)
+      go not_placed e (Some p) f =
           let o = offer_some n c p f in
           absurd (true≢false (sym (placed-in_layer n o.in_layer_is.0 (spot n p) o.in_layer_is.1) ∙ empty p o.inside))
 

@@ -1,28 +1,14 @@
--- A camera without a place is one without a chain (`no_place_no_chain`), and what demand 3 asks holds of every report that agrees with a
--- right one on the placed cameras of the rig, whatever it says of others (`layered_report`): so it carries from spots to bytes.
--- Assumes nothing.
+-- What demand 3 asks holds of every report that agrees with a right one on the placed cameras of the rig, whatever it says of others
+-- (`layered_report`): so it carries from spots to bytes. Assumes nothing.
 use Prim.Native.Nat.{ℕ, zero, suc, ◌<◌}
 use native.Mathlib.Decide.{ℕ_discrete}
-use mathlib.Core.Path.{◌≡◌, refl, sym, ap, ◌∙◌, subst}
-use mathlib.Core.Logic.{◌↔◌}
-use mathlib.Core.Bool.{Bool, true, false}
+use mathlib.Core.Path.{◌≡◌, refl, sym, ap, ◌∙◌}
+use mathlib.Core.Bool.{Bool}
 use mathlib.Core.List.{List, ◌∷◌}
 use lib.Dec.{T}
-use Rattle.chains.specs.Chains.{Chain, read_chain, reported_chain}
+use Rattle.chains.specs.Chains.{read_chain, reported_chain}
 use Rattle.chains.specs.Layered.{Layered}
 use Rattle.chains.proofs.Walks.{read-reference, read-parent}
-
--- "naming precisely the cameras without a chain"
-pub no_place_no_chain : {cameras : ℕ} {w : ℕ → ℕ → ℕ} {least reference : ℕ} {has_place : ℕ → Bool} {parent link_count : ℕ → ℕ}
-    → Layered cameras w least reference has_place parent link_count
-    → (c : ℕ) → c < cameras → (has_place c ≡ false) ↔ ((l : List ℕ) → Chain cameras w least reference c l → ⊥)
-no_place_no_chain {has_place = has_place} right c h =
-    let both = right.placed_with_chain c h in
-    (λ e l s. subst T e (both.1 (l, s)), λ none. go (has_place c) (λ t. none (both.0 t).0 (both.0 t).1))
-  where
-    go : (t : Bool) → (T t → ⊥) → t ≡ false
-    go true n = absurd (n tt)
-    go false n = refl
 
 module _ (cameras : ℕ) (w : ℕ → ℕ → ℕ) (least reference : ℕ) (inside : reference < cameras)
     (has_place has_place' : ℕ → Bool) (parent parent' link_count link_count' : ℕ → ℕ)

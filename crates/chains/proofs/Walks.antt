@@ -5,7 +5,7 @@ use Prim.Native.Nat.{ℕ, zero, suc, ◌-◌, ◌≤◌, ◌<◌}
 use native.Mathlib.Omega.{arith}
 use mathlib.Core.Path.{◌≡◌, refl, sym, ap, ◌∙◌, subst}
 use mathlib.Core.Logic.{◌≢◌}
-use mathlib.Core.Option.{Option, none, some}
+use Rattle.std.specs.Prelude.{Option, None, Some}
 use mathlib.Core.List.{List, [], ◌∷◌}
 use lib.ListN.{length, get_or}
 use borrow.Author.Tests.{eq-eqb, ne_eqb}
@@ -78,10 +78,10 @@ module _ (cameras : ℕ) (w : ℕ → ℕ → ℕ) (least reference : ℕ) where
       step = spot_suc cameras w least reference e c h.first_inside
 
       go : (s : Spot) → spot cameras w least reference e c ≡ s → (o : Option ℕ) → offer cameras w least reference e c ≡ o → Placed (suc e) c
-      go (placed p k) es none eo = (p, k, step ∙ rw es)
-      go (placed p k) es (some r) eo = (p, k, step ∙ rw es)
-      go not_placed es none eo = absurd (offer_none cameras w least reference e c eo d q h.second_inside f h.different h.share_enough)
-      go not_placed es (some p) eo = (p, suc e, step ∙ rw (es, eo))
+      go (placed p k) es None eo = (p, k, step ∙ rw es)
+      go (placed p k) es (Some r) eo = (p, k, step ∙ rw es)
+      go not_placed es None eo = absurd (offer_none cameras w least reference e c eo d q h.second_inside f h.different h.share_enough)
+      go not_placed es (Some p) eo = (p, suc e, step ∙ rw (es, eo))
 
   walk_placed : (l : List ℕ) (c : ℕ) → c < cameras → Walk c l → Placed (length l) c
   unfolding start_spot

@@ -2,7 +2,7 @@
 -- linked to layer n is in layer n + 1. Its parent is the camera of layer n sharing most views with it, lowest index on ties."
 -- It computes. Assumes nothing.
 use Rattle.std.specs.Prelude.{ℕ, zero, suc, Bool, true, false, cond, not, ◌&&◌, List, get_or, eqb, ltb, leb}
-use Rattle.std.proofs.Math.Option.{Option, none, some}
+use Rattle.std.specs.Prelude.{Option, None, Some}
 use Rattle.lists.specs.Lists.{tabulate}
 
 -- What is known of one camera: it is not placed, or it has a parent and a number of links. "Links equal the layer number."
@@ -34,12 +34,12 @@ spot_at spots c = get_or spots c not_placed
 -- Camera p is taken if it passes the test and no camera is found yet, or the one found has fewer views.
 unfoldable pub take_if_more : Bool → ℕ → (ℕ → ℕ) → Option ℕ → Option ℕ
 take_if_more false p views o = o
-take_if_more true p views none = some p
-take_if_more true p views (some q) = cond (ltb (views q) (views p)) (some p) (some q)
+take_if_more true p views None = Some p
+take_if_more true p views (Some q) = cond (ltb (views q) (views p)) (Some p) (Some q)
 
 -- Of the first m cameras that pass the test, the one with most views, lowest index on ties.
 unfoldable pub most_views : (ℕ → Bool) → (ℕ → ℕ) → ℕ → Option ℕ
-most_views test views zero = none
+most_views test views zero = None
 most_views test views (suc m) = take_if_more (test m) m views (most_views test views m)
 
 -- The reference is layer 0, "has itself as parent and 0 links".
@@ -49,8 +49,8 @@ start_spot reference c = cond (eqb c reference) (placed reference 0) not_placed
 -- A camera not yet placed goes to layer n + 1 where it has a parent in layer n.
 unfoldable pub next_spot : ℕ → Spot → Option ℕ → Spot
 next_spot n (placed p d) parent = placed p d
-next_spot n not_placed none = not_placed
-next_spot n not_placed (some p) = placed p (suc n)
+next_spot n not_placed None = not_placed
+next_spot n not_placed (Some p) = placed p (suc n)
 
 -- `w c p` is the number of views that cameras c and p share; it takes `least` of them to link two cameras. Camera p is in layer n and linked
 -- to camera c.

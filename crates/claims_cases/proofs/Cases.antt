@@ -5,7 +5,7 @@ use Prim.Native.Nat.{ℕ, zero, suc, ◌<◌}
 use native.Mathlib.Omega.{arith}
 use mathlib.Core.Path.{◌≡◌, refl, sym, ap, ap₂, ◌∙◌}
 use mathlib.Core.Bool.{not}
-use mathlib.Core.Option.{none}
+use Rattle.std.specs.Prelude.{None}
 use mathlib.Core.List.{List, [], ◌∷◌, ◌++◌, map}
 use lib.ListN.{length, get_or}
 use lib.Ieee.{Float, to_bits, of_bits, of_int, add, sub, mul, div, neg, lt, eq}
@@ -82,11 +82,11 @@ spots-P9 =
     ∙ sym (spots_masks (dense_rig masks_of_p9 43 4 0) floats_of_p9 fitting)
     ∙ layers-P9
 
-finite_P9 : lowest_not_finite grid_of_p9 ≡ none
+finite_P9 : lowest_not_finite grid_of_p9 ≡ None
 unfolding views_of_p9 grid_of identities lowest_not_finite finite_pose of_bits
 finite_P9 = refl
 
-full_P9 : lowest_empty_view grid_of_p9 ≡ none
+full_P9 : lowest_empty_view grid_of_p9 ≡ None
 unfolding views_of_p9 grid_of lowest_empty_view is_held
 full_P9 = refl
 
@@ -94,7 +94,7 @@ reached_P9 : unreached_set grid_of_p9 ≡ 0
 unfolding views_of_p9 grid_of power_sum is_placed
 reached_P9 = unreached_set-spots grid_of_p9 spots_of_p9 spots-P9 ∙ refl
 
-passed_P9 : input_refusal (map length views_of_p9) (view_after_view views_of_p9) (length floats_of_p9) 0 560 32 ≡ none
+passed_P9 : input_refusal (map length views_of_p9) (view_after_view views_of_p9) (length floats_of_p9) 0 560 32 ≡ None
 unfolding views_of_p9 view_after_view identities input_refusal
 passed_P9 = refl
 

@@ -2,7 +2,7 @@
 -- `GridRow`. The numbers between are no part of what is said. Assumes nothing.
 use Prim.Native.Nat.{ℕ}
 use mathlib.Core.Path.{◌≡◌, refl, ap, ap₂, ◌∙◌}
-use mathlib.Core.Option.{none}
+use Rattle.std.specs.Prelude.{None}
 use mathlib.Core.List.{List, [], ◌∷◌, ◌++◌}
 use lib.Ieee.{of_bits, of_int, add, sub, mul, div, neg, lt, eq}
 use Rattle.root.specs.Root.{root_of}
@@ -381,7 +381,7 @@ target4 = ap average_isometries (seen 4 ∙ seen_target4) ∙ average_target4
 
 -- ---- the whole
 
-solved : direct_refusal deep_counts deep_marks deep_floats 3 70 10 ≡ none
+solved : direct_refusal deep_counts deep_marks deep_floats 3 70 10 ≡ None
 unfolding direct_refusal deep_floats finite_pose is_held is_placed shared count spots layers layers_to start_spot next_spot parent_in_layer linked_in_layer in_layer most_views take_if_more of_bits
 solved = refl
 
@@ -397,5 +397,5 @@ unfolding chains deep_chains direct_grid parent_of links_of
 chains_grid = ap (λ (s : List Spot). gather 5 (λ c. parent_of (spot_at s c) ∷ links_of (spot_at s c) ∷ [])) spots_grid
 
 -- Answers of 70 floats and 10 bytes are just long enough.
-pub deep_holds : (direct_refusal deep_counts deep_marks deep_floats 3 70 10 ≡ none) × (transforms (direct_grid deep_counts deep_marks deep_floats 3) ≡ deep_transforms) × (chains (direct_grid deep_counts deep_marks deep_floats 3) ≡ deep_chains)
+pub deep_holds : (direct_refusal deep_counts deep_marks deep_floats 3 70 10 ≡ None) × (transforms (direct_grid deep_counts deep_marks deep_floats 3) ≡ deep_transforms) × (chains (direct_grid deep_counts deep_marks deep_floats 3) ≡ deep_chains)
 deep_holds = (solved, transforms_grid, chains_grid)

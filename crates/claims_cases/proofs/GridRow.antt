@@ -3,7 +3,7 @@
 -- are no part of what is said. Assumes nothing.
 use Prim.Native.Nat.{ℕ}
 use mathlib.Core.Path.{◌≡◌, refl, ap, ap₂, ◌∙◌}
-use mathlib.Core.Option.{none}
+use Rattle.std.specs.Prelude.{None}
 use mathlib.Core.List.{List, [], ◌∷◌, ◌++◌}
 use lib.Ieee.{of_bits, of_int, add, sub, mul, div, neg, lt, eq}
 use Rattle.root.specs.Root.{root_of}
@@ -260,7 +260,7 @@ target3 = ap average_isometries (seen 3 ∙ seen_target3) ∙ average_target3
 
 -- ---- the whole
 
-solved : direct_refusal counts marks floats 2 49 6 ≡ none
+solved : direct_refusal counts marks floats 2 49 6 ≡ None
 unfolding direct_refusal floats finite_pose is_held is_placed shared count spots layers layers_to start_spot next_spot parent_in_layer linked_in_layer in_layer most_views take_if_more of_bits
 solved = refl
 
@@ -276,5 +276,5 @@ unfolding chains grid_chains direct_grid parent_of links_of
 chains_grid = ap (λ (s : List Spot). gather 3 (λ c. parent_of (spot_at s c) ∷ links_of (spot_at s c) ∷ [])) spots_grid
 
 -- Answers of 49 floats and 6 bytes are just long enough.
-pub grid_holds : (direct_refusal counts marks floats 2 49 6 ≡ none) × (transforms (direct_grid counts marks floats 2) ≡ grid_transforms) × (chains (direct_grid counts marks floats 2) ≡ grid_chains)
+pub grid_holds : (direct_refusal counts marks floats 2 49 6 ≡ None) × (transforms (direct_grid counts marks floats 2) ≡ grid_transforms) × (chains (direct_grid counts marks floats 2) ≡ grid_chains)
 grid_holds = (solved, transforms_grid, chains_grid)

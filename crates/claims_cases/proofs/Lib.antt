@@ -2,6 +2,8 @@
 pub mod ArithmeticCases
 pub mod Cases
 pub mod DeepGrid
+pub mod DirectFits
+pub mod FiniteDoubles
 pub mod GridRow
 pub mod OverflowGrid
 pub mod SingleGrid

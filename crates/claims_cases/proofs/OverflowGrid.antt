@@ -2,7 +2,7 @@
 -- `GridRow`. The numbers between are no part of what is said. Assumes nothing.
 use Prim.Native.Nat.{ℕ}
 use mathlib.Core.Path.{◌≡◌, refl, ap, ap₂, ◌∙◌}
-use mathlib.Core.Option.{none}
+use Rattle.std.specs.Prelude.{None}
 use mathlib.Core.List.{List, [], ◌∷◌, ◌++◌}
 use lib.Ieee.{of_bits, of_int, add, sub, mul, div, neg, lt, eq}
 use Rattle.root.specs.Root.{root_of}
@@ -119,7 +119,7 @@ target0 = ap average_isometries (seen 0 ∙ seen_target0) ∙ average_target0
 
 -- ---- the whole
 
-solved : direct_refusal overflow_counts overflow_marks overflow_floats 0 21 4 ≡ none
+solved : direct_refusal overflow_counts overflow_marks overflow_floats 0 21 4 ≡ None
 unfolding direct_refusal overflow_floats finite_pose is_held is_placed shared count spots layers layers_to start_spot next_spot parent_in_layer linked_in_layer in_layer most_views take_if_more of_bits
 solved = refl
 
@@ -135,5 +135,5 @@ unfolding chains overflow_chains direct_grid parent_of links_of
 chains_grid = ap (λ (s : List Spot). gather 2 (λ c. parent_of (spot_at s c) ∷ links_of (spot_at s c) ∷ [])) spots_grid
 
 -- Answers of 21 floats and 4 bytes are just long enough.
-pub overflow_holds : (direct_refusal overflow_counts overflow_marks overflow_floats 0 21 4 ≡ none) × (transforms (direct_grid overflow_counts overflow_marks overflow_floats 0) ≡ overflow_transforms) × (chains (direct_grid overflow_counts overflow_marks overflow_floats 0) ≡ overflow_chains)
+pub overflow_holds : (direct_refusal overflow_counts overflow_marks overflow_floats 0 21 4 ≡ None) × (transforms (direct_grid overflow_counts overflow_marks overflow_floats 0) ≡ overflow_transforms) × (chains (direct_grid overflow_counts overflow_marks overflow_floats 0) ≡ overflow_chains)
 overflow_holds = (solved, transforms_grid, chains_grid)

@@ -2,7 +2,7 @@
 -- `GridRow`. The numbers between are no part of what is said. Assumes nothing.
 use Prim.Native.Nat.{ℕ}
 use mathlib.Core.Path.{◌≡◌, refl, ap, ap₂, ◌∙◌}
-use mathlib.Core.Option.{none}
+use Rattle.std.specs.Prelude.{None}
 use mathlib.Core.List.{List, [], ◌∷◌, ◌++◌}
 use lib.Ieee.{of_bits, of_int, add, sub, mul, div, neg, lt, eq}
 use Rattle.root.specs.Root.{root_of}
@@ -142,7 +142,7 @@ target1 = ap average_isometries (seen 1 ∙ seen_target1) ∙ average_target1
 
 -- ---- the whole
 
-solved : direct_refusal single_counts single_marks single_floats 0 28 4 ≡ none
+solved : direct_refusal single_counts single_marks single_floats 0 28 4 ≡ None
 unfolding direct_refusal single_floats finite_pose is_held is_placed shared count spots layers layers_to start_spot next_spot parent_in_layer linked_in_layer in_layer most_views take_if_more of_bits
 solved = refl
 
@@ -158,5 +158,5 @@ unfolding chains single_chains direct_grid parent_of links_of
 chains_grid = ap (λ (s : List Spot). gather 2 (λ c. parent_of (spot_at s c) ∷ links_of (spot_at s c) ∷ [])) spots_grid
 
 -- Answers of 28 floats and 4 bytes are just long enough.
-pub single_holds : (direct_refusal single_counts single_marks single_floats 0 28 4 ≡ none) × (transforms (direct_grid single_counts single_marks single_floats 0) ≡ single_transforms) × (chains (direct_grid single_counts single_marks single_floats 0) ≡ single_chains)
+pub single_holds : (direct_refusal single_counts single_marks single_floats 0 28 4 ≡ None) × (transforms (direct_grid single_counts single_marks single_floats 0) ≡ single_transforms) × (chains (direct_grid single_counts single_marks single_floats 0) ≡ single_chains)
 single_holds = (solved, transforms_grid, chains_grid)

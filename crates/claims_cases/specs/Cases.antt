@@ -1,10 +1,7 @@
 -- The rows P1 to P9 of document 01's bench table, and with the rows of `ArithmeticCases` the whole table: what the definitions compute
 -- beside what the paper says, as whole numbers; and a second table, `refusal_rows`, of the refusals' bounds and order. A double is its bits.
 -- Rests on the direct call of `extrinsics`.
-use Rattle.std.specs.Prelude.{ℕ, replicate, Float}
-use Rattle.std.proofs.Math.Option.{Option, none, some}
-use mathlib.Core.List.{List, [], ◌∷◌, ◌++◌, map}
-use Rattle.std.proofs.Math.ListN.{length}
+use Rattle.std.specs.Prelude.{ℕ, List, [], ◌∷◌, ◌++◌, map, length, replicate, Float, Option, None, Some}
 use Rattle.std.specs.Float.{binary64}
 use Rattle.std.specs.Float.Ieee.{of_bits}
 use Rattle.arithmetic.specs.Double.{Zero, One}
@@ -22,8 +19,8 @@ use Rattle.claims_direct.specs.Demand3.{reported_parent, reported_links}
 
 -- The number and the detail of a refusal; 0 and 0 where the rig is solved.
 unfoldable pub told : Option Refusal → List ℕ
-told none = 0 ∷ 0 ∷ []
-told (some r) = number_of r ∷ detail_of r ∷ []
+told None = 0 ∷ 0 ∷ []
+told (Some r) = number_of r ∷ detail_of r ∷ []
 
 -- Answers with room for every rig.
 abbrev first_room : ℕ

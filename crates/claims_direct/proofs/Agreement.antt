@@ -4,7 +4,7 @@
 -- is placed layer by layer alike. Assumes nothing.
 use Rattle.std.proofs.Common.{◌≡◌, ℕ, ◌<◌, ◌≤◌, ◌≢◌, List, [], ◌∷◌, length, get_or, refl, ap, ◌∙◌, ap₂, arith, eq-eqb, ne_eqb, le-leb}
 use native.Mathlib.Decide.{ℕ_discrete, dec_lt}
-use mathlib.Core.Option.{Option, none, some}
+use Rattle.std.specs.Prelude.{Option, None, Some}
 use lib.Ieee.{Float}
 use borrow.Author.Tests.{lt-leb}
 use Rattle.arithmetic.specs.declared.pose.Pose.{Pose}
@@ -30,7 +30,7 @@ use Rattle.claims_direct.proofs.DirectChecks.{size_no_views, size_no_cameras, si
 
 -- ---- 8, 9 and the transforms
 
-module _ (camSe3Target : List (List (Option Pose))) (g : Grid) (same : SameGrid camSe3Target g) (finite : not_finite g ≡ none) where
+module _ (camSe3Target : List (List (Option Pose))) (g : Grid) (same : SameGrid camSe3Target g) (finite : not_finite g ≡ None) where
   abbrev AgreedAfterLoop : Type 0
   AgreedAfterLoop = Agrees (after_loop camSe3Target (rig_final g)) (grid_refusal g) (transforms g)
 
@@ -39,14 +39,14 @@ module _ (camSe3Target : List (List (Option Pose))) (g : Grid) (same : SameGrid 
   agrees_unreached c l e = rw (rust_unreached camSe3Target (rig_final g) c l (unreached_same camSe3Target g same ∙ e)) (grid_refusal-unreached g finite c l e)
 
   module _ (placed : left g ≡ []) where
-    agrees_empty_view : (v : ℕ) → lowest_empty_view g ≡ some v → AgreedAfterLoop
+    agrees_empty_view : (v : ℕ) → lowest_empty_view g ≡ Some v → AgreedAfterLoop
     unfolding refusal_of refuse_at
     agrees_empty_view v e =
         rw (rust_empty_view camSe3Target (rig_final g) (rig_poses g) (unreached_same camSe3Target g same ∙ placed) (flatten_rig_final g (left-none g placed))
         (no_valid_camera_poses v) (targets_same camSe3Target g same ∙ rw e))
         (grid_refusal-empty_view g finite placed ∙ rw e)
 
-    agrees_solved : lowest_empty_view g ≡ none → AgreedAfterLoop
+    agrees_solved : lowest_empty_view g ≡ None → AgreedAfterLoop
     unfolding refuse_at
     agrees_solved e =
         rw (rust_solved camSe3Target (rig_final g) (rig_poses g) (unreached_same camSe3Target g same ∙ placed) (flatten_rig_final g (left-none g placed))
@@ -57,8 +57,8 @@ module _ (camSe3Target : List (List (Option Pose))) (g : Grid) (same : SameGrid 
   agrees_after_loop = by_cameras (left g) refl
     where
       by_views : left g ≡ [] → (o : Option ℕ) → lowest_empty_view g ≡ o → AgreedAfterLoop
-      by_views placed none e = agrees_solved placed e
-      by_views placed (some v) e = agrees_empty_view placed v e
+      by_views placed None e = agrees_solved placed e
+      by_views placed (Some v) e = agrees_empty_view placed v e
 
       by_cameras : (l : List ℕ) → left g ≡ l → AgreedAfterLoop
       by_cameras [] e = by_views e (lowest_empty_view g) refl
@@ -85,27 +85,27 @@ module _ (camSe3Target : List (List (Option Pose))) (refCamIdx : ℕ) (counts ma
   lengths = length_refusal (length counts) (get_or counts 0 0) (length marks) (length floats) first_room second_room
 
   abbrev first_refusal : (sizes counts lengths marks grid : Option Refusal) → Option Refusal
-  first_refusal s c l m r = or_else (or_else s (or_else c (or_else l (or_else m none)))) (or_else r none)
+  first_refusal s c l m r = or_else (or_else s (or_else c (or_else l (or_else m None)))) (or_else r None)
 
   refused-first : refused ≡ first_refusal sizes (count_refusal counts) lengths (mark_refusal (cell_count counts) marks) (grid_refusal g)
   unfolding direct_refusal
   refused-first = refl
 
-  refused-sizes : (r : Refusal) → sizes ≡ some r → refused ≡ some r
+  refused-sizes : (r : Refusal) → sizes ≡ Some r → refused ≡ Some r
   unfolding or_else
   refused-sizes r e = refused-first ∙ ap (λ (s : Option Refusal). first_refusal s (count_refusal counts) lengths (mark_refusal (cell_count counts) marks) (grid_refusal g)) e
 
-  refused-counts : (r : Refusal) → sizes ≡ none → count_refusal counts ≡ some r → refused ≡ some r
+  refused-counts : (r : Refusal) → sizes ≡ None → count_refusal counts ≡ Some r → refused ≡ Some r
   unfolding or_else
   refused-counts r e f = refused-first ∙ ap₂ (λ (s c : Option Refusal). first_refusal s c lengths (mark_refusal (cell_count counts) marks) (grid_refusal g)) e f
 
-  refused_grid : sizes ≡ none → count_refusal counts ≡ none → EqualCounts camSe3Target → RoomEnough camSe3Target first_room second_room
+  refused_grid : sizes ≡ None → count_refusal counts ≡ None → EqualCounts camSe3Target → RoomEnough camSe3Target first_room second_room
       → refused ≡ grid_refusal g
   unfolding or_else
   refused_grid e f equal enough =
       refused-first
       ∙ ap₂ (λ (s c : Option Refusal). first_refusal s c lengths (mark_refusal (cell_count counts) marks) (grid_refusal g)) e f
-      ∙ ap₂ (λ (l m : Option Refusal). first_refusal none none l m (grid_refusal g))
+      ∙ ap₂ (λ (l m : Option Refusal). first_refusal None None l m (grid_refusal g))
       (lengths_pass camSe3Target counts marks floats encoded equal first_room second_room enough) (marks_pass camSe3Target counts marks floats encoded equal)
       ∙ or_else_none (grid_refusal g)
 
@@ -141,7 +141,7 @@ module _ (camSe3Target : List (List (Option Pose))) (refCamIdx : ℕ) (counts ma
           (omega (arith, cameras_same)) (omega (arith, cameras_same, limits.cameras_fit)) (omega (arith, cameras_same))))
 
       module _ (inside : refCamIdx < num_cameras camSe3Target) where
-        sizes_pass : sizes ≡ none
+        sizes_pass : sizes ≡ None
         sizes_pass =
             size_refusal-sizes (length counts) (get_or counts 0 0) refCamIdx
             (record {
@@ -152,14 +152,14 @@ module _ (camSe3Target : List (List (Option Pose))) (refCamIdx : ℕ) (counts ma
               reference_inside = omega (arith, cameras_same);
             })
 
-        agrees_other_count : (v : ℕ) → other_count camSe3Target ≡ some v → Agreed
+        agrees_other_count : (v : ℕ) → other_count camSe3Target ≡ Some v → Agreed
         unfolding refusal_of refuse_at
         agrees_other_count v e =
             rw (rust_counts camSe3Target refCamIdx (ne_eqb (num_views camSe3Target) 0 some_view) (ne_eqb (num_cameras camSe3Target) 0 some_camera)
             (lt-leb (num_cameras camSe3Target) refCamIdx inside) v (check_counts_other_count camSe3Target ∙ rw e))
             (refused-counts (CountDiffers v) sizes_pass (count_refusal_other_count camSe3Target counts marks floats encoded ∙ rw e))
 
-        agrees_equal_counts : other_count camSe3Target ≡ none → Agreed
+        agrees_equal_counts : other_count camSe3Target ≡ None → Agreed
         unfolding refuse_at direct_grid
         agrees_equal_counts e =
             let equal : EqualCounts camSe3Target = equal_counts camSe3Target e in
@@ -174,8 +174,8 @@ module _ (camSe3Target : List (List (Option Pose))) (refCamIdx : ℕ) (counts ma
             (agrees_after_loop camSe3Target g same (not_finite_passes camSe3Target counts marks floats encoded equal refCamIdx limits))
 
         agrees_inside : (o : Option ℕ) → other_count camSe3Target ≡ o → Agreed
-        agrees_inside none e = agrees_equal_counts e
-        agrees_inside (some v) e = agrees_other_count v e
+        agrees_inside None e = agrees_equal_counts e
+        agrees_inside (Some v) e = agrees_other_count v e
 
   agreed : Agreed
   agreed = by_views (ℕ_discrete (num_views camSe3Target) 0)

@@ -1,8 +1,7 @@
 -- Laws of the numbers below n that pass a test, as the Rust lists them: `(0..n).filter(test)`. What is in the list, its sum of powers, and
 -- that its first least pair by `(Reverse(views), index)` is what `most_views` finds. Assumes nothing.
 use Rattle.std.proofs.Common.{◌≡◌, ℕ, zero, suc, ◌+◌, ◌^◌, ◌<◌, Bool, true, false, cond, ◌&&◌, ◌||◌, eqb, ltb, List, [], ◌∷◌, ◌++◌, map, sym, refl, ap, ◌∙◌, ap₂, ⊎_elim, append-nil, le_of_suc-le-suc, eq-or-lt_of_le, arith, pow_pos, le-ltb, eq-eqb, ne_eqb}
-use mathlib.Core.Option
-use mathlib.Core.Option.{Option, none, some}
+use Rattle.std.specs.Prelude.{option_map, Option, None, Some}
 use mathlib.Core.List.{map-append, foldl-append}
 use Rattle.chains.specs.Layers.{take_if_more, most_views}
 use Rattle.lists.specs.Finding.{power_sum}
@@ -34,8 +33,8 @@ filter-range_agree f g (suc n) h =
 
 -- The last of a list with one element more is in it.
 append-not-empty : (l : List ℕ) (n : ℕ) → l ++ (n ∷ []) ≡ [] → ⊥
-append-not-empty [] n e = let z : ◌≡◌ {A = ℕ} 0 1 = cc in omega arith
-append-not-empty (a ∷ l) n e = let z : ◌≡◌ {A = ℕ} 0 1 = cc in omega arith
+append-not-empty [] n e = cc
+append-not-empty (a ∷ l) n e = cc
 
 pub filter-range-empty : (test : ℕ → Bool) (n : ℕ) → filter test (range n) ≡ [] → (i : ℕ) → i < n → test i ≡ false
 filter-range-empty test zero e i h = absurd (omega arith)
@@ -48,7 +47,7 @@ filter-range-empty test (suc n) e i h = go (test n) refl (λ f. filter-range-emp
 
 pub filter-range_member : (test : ℕ → Bool) (n c : ℕ) (l : List ℕ) → filter test (range n) ≡ c ∷ l → (i : ℕ) × (i < n) × (test i ≡ true)
 unfolding range filter
-filter-range_member test zero c l e = absurd (let z : ◌≡◌ {A = ℕ} 0 1 = cc in omega arith)
+filter-range_member test zero c l e = cc
 filter-range_member test (suc n) c l e = go (test n) refl (λ f. filter-range_member test n c l f)
   where
     go : (t : Bool) → test n ≡ t → (filter test (range n) ≡ c ∷ l → (i : ℕ) × (i < n) × (test i ≡ true)) → (i : ℕ) × (i < suc n) × (test i ≡ true)
@@ -117,18 +116,18 @@ module _ (views : ℕ → ℕ) where
       go false false = refl
 
   lesser-take_if_more : (test : ℕ → Bool) (m : ℕ) (o : Option ℕ) → Found test views m o
-      → lesser key_below (Option.map with_views o) (with_views m) ≡ Option.map with_views (take_if_more true m views o)
+      → lesser key_below (option_map with_views o) (with_views m) ≡ option_map with_views (take_if_more true m views o)
   unfolding lesser take_if_more
-  lesser-take_if_more test m none f = refl
-  lesser-take_if_more test m (some q) f = rw (key_below-later q m f.below) (go (ltb (views q) (views m)))
+  lesser-take_if_more test m None f = refl
+  lesser-take_if_more test m (Some q) f = rw (key_below-later q m f.below) (go (ltb (views q) (views m)))
     where
-      go : (t : Bool) → cond t (some (with_views m)) (some (with_views q)) ≡ Option.map with_views (cond t (some m) (some q))
+      go : (t : Bool) → cond t (Some (with_views m)) (Some (with_views q)) ≡ option_map with_views (cond t (Some m) (Some q))
       go true = refl
       go false = refl
 
   pub min_by-most_views : (test : ℕ → Bool) (m : ℕ)
       → min_by key_below (filter (λ pair. ltb 0 pair.1) (map with_views (filter test (range m))))
-      ≡ Option.map with_views (most_views (λ p. test p && ltb 0 (views p)) views m)
+      ≡ option_map with_views (most_views (λ p. test p && ltb 0 (views p)) views m)
   unfolding min_by most_views take_if_more range filter
   min_by-most_views test zero = refl
   min_by-most_views test (suc m) = go (test m) refl (ltb 0 (views m)) refl (min_by-most_views test m)
@@ -152,12 +151,12 @@ module _ (views : ℕ → ℕ) where
       shares_none : ltb 0 (views m) ≡ false → pairs (filter test (range m) ++ (m ∷ [])) ≡ pairs (filter test (range m))
       shares_none et = more ∙ rw et (append-nil (pairs (filter test (range m))))
 
-      go : (s : Bool) → test m ≡ s → (t : Bool) → ltb 0 (views m) ≡ t → min_by key_below (pairs (filter test (range m))) ≡ Option.map with_views found
-          → min_by key_below (pairs (filter test (range (suc m)))) ≡ Option.map with_views (take_if_more (test m && ltb 0 (views m)) m views found)
+      go : (s : Bool) → test m ≡ s → (t : Bool) → ltb 0 (views m) ≡ t → min_by key_below (pairs (filter test (range m))) ≡ option_map with_views found
+          → min_by key_below (pairs (filter test (range (suc m)))) ≡ option_map with_views (take_if_more (test m && ltb 0 (views m)) m views found)
       go true es true et rest =
           ap (λ (l : List ℕ). min_by key_below (pairs l)) (filter-range_in test m es)
           ∙ ap (min_by key_below) (shares et)
-          ∙ foldl-append (lesser key_below) none (pairs (filter test (range m))) (with_views m ∷ [])
+          ∙ foldl-append (lesser key_below) None (pairs (filter test (range m))) (with_views m ∷ [])
           ∙ ap (λ (o : Option (ℕ × ℕ)). lesser key_below o (with_views m)) rest
           ∙ lesser-take_if_more (λ p. test p && ltb 0 (views p)) m found (most_views_found (λ p. test p && ltb 0 (views p)) views m)
           ∙ rw (es, et)

@@ -1,15 +1,14 @@
 -- Demand 2 of the call itself (`call_agrees_with_rust`): whatever a direct call on inputs that hold a grid answers and leaves in the lent
 -- answers is what the Rust function comes to. It is `agrees_with_rust`, read through what the call ensures. Assumes nothing.
 use Rattle.std.proofs.Common.{ℕ, List, length, ap, ◌∙◌, ap₂}
-use mathlib.Core.Option.{Option}
+use Rattle.std.specs.Prelude.{Option}
 use lib.Ieee.{Float}
 use Rattle.arithmetic.specs.declared.pose.Pose.{Pose}
 use Rattle.refusal.specs.declared.Refusal.{Refusal}
 use Rattle.placing.specs.Grid.{Grid}
 use Rattle.placing.specs.Estimate.{transforms, chains}
-use Rattle.extrinsics.specs.Outcome.{outcome_of, answered, Answers}
+use Rattle.extrinsics.specs.Outcome.{outcome_of, answered, Answers, Outcome}
 use Rattle.extrinsics.specs.Direct.{direct_grid, direct_refusal, Direct}
-use Rattle.extrinsics.specs.declared.Outcome.{Outcome}
 use Rattle.claims_direct.specs.RustStd.{Result, ok, err, neither}
 use Rattle.claims_direct.specs.Rust.{Error, ExtrinsicPoses, estimate_extrinsics_from_cam_target_poses}
 use Rattle.claims_direct.specs.Encoding.{Encodes, WithinLimits, RoomWhereSized, Agrees, CallAgrees}

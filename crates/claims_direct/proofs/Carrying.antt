@@ -2,7 +2,7 @@
 -- that are themselves lists of checks are one list. Assumes nothing.
 use Rattle.std.proofs.Common.{◌≡◌, ℕ, ◌<◌, Bool, true, false, ◌↔◌, List, [], ◌∷◌, ◌++◌, sym, refl, ap, ◌∙◌, subst, true≢false, arith}
 use mathlib.Core.Bool.{false≢true}
-use mathlib.Core.Option.{Option, none, some}
+use Rattle.std.specs.Prelude.{Option, None, Some}
 use Rattle.refusal.specs.Table.{number_of, detail_of, refuse_if, refuse_at, first_of}
 use Rattle.refusal.specs.declared.Refusal.{Refusal}
 use Rattle.lists.specs.Finding.{lowest}
@@ -13,12 +13,6 @@ use Rattle.claims_direct.proofs.Deciding.{Carries}
 
 -- ---- a test
 
-some_same : (p q : Refusal) → some p ≡ some q → p ≡ q
-some_same p q e = cc
-
-none-not-some : (q : Refusal) → none ≡ some q → ⊥
-none-not-some q e = let clash : ◌≡◌ {A = ℕ} 0 1 = cc in omega arith
-
 -- The detail is the refusal's own.
 pub refuse_if_carries : (b : Bool) (r : Refusal) (Words : ℕ → Type 0) → (b ≡ true → Words (detail_of r))
     → ((d : ℕ) → Words d → (b ≡ true) × (detail_of r ≡ d)) → Carries (naming (number_of r) Words) (refuse_if b r)
@@ -26,12 +20,12 @@ unfolding refuse_if
 refuse_if_carries true r Words said found =
     record {
       finds_said = λ q e.
-          let same : r ≡ q = some_same r q e in
+          let same : r ≡ q = cc in
           (ap number_of (sym same), subst (λ (p : Refusal). Words (detail_of p)) same (said refl));
       said_found = λ d w. (r, refl, refl, (found d w).1);
     }
 refuse_if_carries false r Words said found =
-    record { finds_said = λ q e. absurd (none-not-some q e); said_found = λ d w. absurd (false≢true (found d w).0) }
+    record { finds_said = λ q e. cc; said_found = λ d w. absurd (false≢true (found d w).0) }
 
 pub refuse_if-plain : (b : Bool) (r : Refusal) (Words : Type 0) → detail_of r ≡ 0 → (b ≡ true) ↔ Words
     → Carries (plain (number_of r) Words) (refuse_if b r)
@@ -48,7 +42,7 @@ module _ (test : ℕ → Bool) (n : ℕ) (Such : ℕ → Type 0) (same : (i : �
       go true e = absurd (other ((same i l).0 e))
       go false e = e
 
-  lowest-below : (d : ℕ) → lowest test n ≡ some d → LowestBelow n Such d
+  lowest-below : (d : ℕ) → lowest test n ≡ Some d → LowestBelow n Such d
   lowest-below d e =
       let (l, t) = lowest_passes test n d e in
       record {
@@ -58,7 +52,7 @@ module _ (test : ℕ → Bool) (n : ℕ) (Such : ℕ → Type 0) (same : (i : �
             true≢false (sym ((same i (omega arith)).1 s) ∙ lowest-none_fails test d i (lowest-before test n d e) k);
       }
 
-  below-lowest : (d : ℕ) → LowestBelow n Such d → lowest test n ≡ some d
+  below-lowest : (d : ℕ) → LowestBelow n Such d → lowest test n ≡ Some d
   below-lowest d low =
       lowest-first test d n low.inside
       (lowest-nothing test d (λ i k. fails i (omega (arith, low.inside)) (low.none_lower i k)))
@@ -66,12 +60,12 @@ module _ (test : ℕ → Bool) (n : ℕ) (Such : ℕ → Type 0) (same : (i : �
 
   module _ (number : ℕ) (refusal : ℕ → Refusal) (its-number : (d : ℕ) → number_of (refusal d) ≡ number) (its-detail : (d : ℕ) → detail_of (refusal d) ≡ d) where
     -- Whatever is found, the refusal names it.
-    found_said : (o : Option ℕ) → lowest test n ≡ o → (q : Refusal) → refuse_at o refusal ≡ some q
+    found_said : (o : Option ℕ) → lowest test n ≡ o → (q : Refusal) → refuse_at o refusal ≡ Some q
         → (number_of q ≡ number) × LowestBelow n Such (detail_of q)
     unfolding refuse_at
-    found_said none e q f = absurd (none-not-some q f)
-    found_said (some d) e q f =
-        let is : refusal d ≡ q = some_same (refusal d) q f in (
+    found_said None e q f = cc
+    found_said (Some d) e q f =
+        let is : refusal d ≡ q = cc in (
           ap number_of (sym is) ∙ its-number d,
           subst (LowestBelow n Such) (sym (its-detail d) ∙ ap detail_of is) (lowest-below d e),
         )
@@ -85,7 +79,7 @@ module _ (test : ℕ → Bool) (n : ℕ) (Such : ℕ → Type 0) (same : (i : �
 
 -- ---- lists of checks in a list of checks
 
-pub all_none_first_of : (checks : List (Option Refusal)) → AllNone checks → first_of checks ≡ none
+pub all_none_first_of : (checks : List (Option Refusal)) → AllNone checks → first_of checks ≡ None
 unfolding first_of
 all_none_first_of [] h = refl
 all_none_first_of (check ∷ later) (e, h) = first_of_none check later e ∙ all_none_first_of later h

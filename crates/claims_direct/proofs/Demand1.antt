@@ -2,7 +2,7 @@
 -- computed checks carry their words (`DirectWords`), so both name the same number and detail; what is solved is `demand_3`, and what is lent beyond
 -- the answers is in `Beyond`. Assumes nothing.
 use Rattle.std.proofs.Common.{◌≡◌, ℕ, ◌↔◌, List, [], ◌∷◌, length, get_or, sym, refl, ap, ◌∙◌}
-use mathlib.Core.Option.{Option, none, some}
+use Rattle.std.specs.Prelude.{Option, None, Some, Err, Ok}
 use lib.Ieee.{Float}
 use Rattle.refusal.specs.Table.{number_of, detail_of}
 use Rattle.refusal.specs.declared.Refusal.{Refusal}
@@ -10,10 +10,8 @@ use Rattle.inputs.specs.Inputs.{input_refusal}
 use Rattle.inputs.proofs.Answering.{AllNone, first_of_none_all}
 use Rattle.placing.specs.Grid.{Grid}
 use Rattle.placing.specs.Estimate.{transforms, chains}
-use Rattle.extrinsics.specs.Outcome.{not_finite, unreached, empty_view, grid_refusal, outcome_of, answered}
+use Rattle.extrinsics.specs.Outcome.{not_finite, unreached, empty_view, grid_refusal, outcome_of, answered, Outcome}
 use Rattle.extrinsics.specs.Direct.{direct_grid, direct_refusal, Direct}
-use Rattle.extrinsics.specs.declared.Outcome.{Outcome}
-use Rattle.extrinsics.specs.declared.Outcome.TheVariants.{Refused, Solved}
 use Rattle.claims_direct.specs.Deciding.{Decides}
 use Rattle.claims_direct.specs.Demand3.{RefusedBy, WellFormed, EveryCameraChained, EveryViewHolds}
 use Rattle.claims_direct.specs.Demand1.{direct_checks, BeyondUnchanged, Demand1}
@@ -25,15 +23,15 @@ use Rattle.claims_direct.proofs.Beyond.{beyond_unchanged-answered}
 
 -- ---- an outcome by what is refused
 
-outcome_of-refused : (o : Option Refusal) (q : Refusal) → outcome_of o ≡ Refused q → o ≡ some q
+outcome_of-refused : (o : Option Refusal) (q : Refusal) → outcome_of o ≡ Err q → o ≡ Some q
 unfolding outcome_of
-outcome_of-refused none q e = cc
-outcome_of-refused (some p) q e = cc
+outcome_of-refused None q e = cc
+outcome_of-refused (Some p) q e = cc
 
-outcome_of_solved : (o : Option Refusal) → outcome_of o ≡ Solved → o ≡ none
+outcome_of_solved : (o : Option Refusal) → outcome_of o ≡ Ok tt → o ≡ None
 unfolding outcome_of
-outcome_of_solved none e = refl
-outcome_of_solved (some p) e = cc
+outcome_of_solved None e = refl
+outcome_of_solved (Some p) e = cc
 
 module _ (counts marks : List ℕ) (floats : List Float) (reference : ℕ) (first : List Float) (second : List ℕ)
     (r : Outcome) (first' : List Float) (second' : List ℕ) (call : Direct counts marks floats reference first second r first' second') where
@@ -62,17 +60,17 @@ module _ (counts marks : List ℕ) (floats : List Float) (reference : ℕ) (firs
 
   -- ---- solved
 
-  solved_passes : r ≡ Solved → PassesBefore8 counts marks floats reference (length first) (length second)
+  solved_passes : r ≡ Ok tt → PassesBefore8 counts marks floats reference (length first) (length second)
   unfolding direct_refusal grid_refusal
   solved_passes e =
-      let free : refusal ≡ none = outcome_of_solved refusal (sym call.outcome ∙ e) in
+      let free : refusal ≡ None = outcome_of_solved refusal (sym call.outcome ∙ e) in
       let all : AllNone (input_refusal counts marks (length floats) reference (length first) (length second) ∷ grid_refusal grid ∷ []) =
       first_of_none_all (input_refusal counts marks (length floats) reference (length first) (length second) ∷ grid_refusal grid ∷ []) free in
       let of_grid : AllNone (not_finite grid ∷ unreached grid ∷ empty_view grid ∷ []) =
       first_of_none_all (not_finite grid ∷ unreached grid ∷ empty_view grid ∷ []) all.1.0 in
       record { passes_1_to_6 = all.0; passes_7 = of_grid.0 }
 
-  solved_exactly : (r ≡ Solved)
+  solved_exactly : (r ≡ Ok tt)
       ↔ (WellFormed counts marks floats reference (length first) (length second)
       × (EveryCameraChained marks cameras views reference × EveryViewHolds marks cameras views))
   solved_exactly = (
@@ -83,26 +81,26 @@ module _ (counts marks : List ℕ) (floats : List Float) (reference : ℕ) (firs
   )
 
   -- What is lent beyond the answers.
-  beyond : r ≡ Solved → BeyondUnchanged views cameras first second first' second'
+  beyond : r ≡ Ok tt → BeyondUnchanged views cameras first second first' second'
   unfolding direct_grid
   beyond e =
-      let free : refusal ≡ none = outcome_of_solved refusal (sym call.outcome ∙ e) in
+      let free : refusal ≡ None = outcome_of_solved refusal (sym call.outcome ∙ e) in
       let formed = (passes_before_8 counts marks floats reference (length first) (length second)).0 (solved_passes e) in
-      let first-is : first' ≡ answered none (transforms grid) first =
+      let first-is : first' ≡ answered None (transforms grid) first =
       call.first_answer ∙ ap (λ (o : Option Refusal). answered o (transforms grid) first) free in
-      let second_is : second' ≡ answered none (chains grid) second =
+      let second_is : second' ≡ answered None (chains grid) second =
       call.second_answer ∙ ap (λ (o : Option Refusal). answered o (chains grid) second) free in
       rw (first-is, second_is) (beyond_unchanged-answered grid first second formed.first_fits formed.second_fits)
 
   -- ---- refused
 
-  unchanged : (r ≡ Solved → ⊥) → ((n : ℕ) × (d : ℕ) × RefusedBy r n d) × (first' ≡ first) × (second' ≡ second)
+  unchanged : (r ≡ Ok tt → ⊥) → ((n : ℕ) × (d : ℕ) × RefusedBy r n d) × (first' ≡ first) × (second' ≡ second)
   unfolding outcome_of answered
   unchanged n = go refusal refl
     where
       go : (o : Option Refusal) → refusal ≡ o → ((n : ℕ) × (d : ℕ) × RefusedBy r n d) × (first' ≡ first) × (second' ≡ second)
-      go none e = absurd (n (call.outcome ∙ ap outcome_of e))
-      go (some q) e = (
+      go None e = absurd (n (call.outcome ∙ ap outcome_of e))
+      go (Some q) e = (
         (number_of q, detail_of q, (q, call.outcome ∙ ap outcome_of e, refl, refl)),
         call.first_answer ∙ ap (λ (o : Option Refusal). answered o (transforms grid) first) e,
         call.second_answer ∙ ap (λ (o : Option Refusal). answered o (chains grid) second) e,

@@ -3,7 +3,7 @@
 -- back block by block; and one of three cases holds, from which every sentence follows. Assumes nothing.
 use Rattle.std.proofs.Common.{◌≡◌, ℕ, ◌*◌, ◌<◌, ◌≤◌, Bool, true, not, T, ◌≢◌, ◌⊎◌, ◌↔◌, List, ◌++◌, length, get_or, drop, sym, refl, ap, ◌∙◌, subst, ap₂, inl, inr, ⊎_elim, arith, T_not}
 use native.Mathlib.Decide.{ℕ_discrete}
-use mathlib.Core.Option.{Option, none, some}
+use Rattle.std.specs.Prelude.{Option, None, Some, Ok}
 use lib.Dec.{not_T}
 use lib.Ieee.{Float}
 use Rattle.arithmetic.specs.Pose.{identity_pose, mul_pose}
@@ -15,12 +15,10 @@ use Rattle.chains.specs.Layers.{spot_at, layers}
 use Rattle.chains.specs.Layered.{Layered}
 use Rattle.placing.specs.Grid.{Grid, shared_views, spots, has_place, parent, link_count}
 use Rattle.placing.specs.Estimate.{rig_se3_cam, rig_se3_target, transforms, chains}
-use Rattle.extrinsics.specs.Outcome.{lowest_not_finite, not_finite, unreached_set, is_empty_view, lowest_empty_view, grid_refusal, outcome_of, answered}
+use Rattle.extrinsics.specs.Outcome.{lowest_not_finite, not_finite, unreached_set, is_empty_view, lowest_empty_view, grid_refusal, outcome_of, answered, Outcome}
 use Rattle.extrinsics.specs.Direct.{direct_grid, direct_refusal, Direct}
 use Rattle.claims_direct.specs.Deciding.{LowestBelow}
 use Rattle.claims_direct.specs.Demand3.{WellFormed, marked_shared, EveryViewHolds, Chained, EveryCameraChained, NamesUnchained, HoldsAPose, reported_parent, reported_links, reported_camera, reported_view, averaged_link_over, targets_over, SolvedRig, RefusedUnchained, RefusedEmpty, Demand3}
-use Rattle.extrinsics.specs.declared.Outcome.{Outcome}
-use Rattle.extrinsics.specs.declared.Outcome.TheVariants.{Refused, Solved}
 use Rattle.inputs.proofs.Answering.{Sizes, refuse_at-nothing}
 use Rattle.chains.proofs.Placing.{is_placed_parts, placed_is_placed}
 use Rattle.chains.proofs.Theorem.{LayeredSpots, layered, layers_agree}
@@ -56,7 +54,7 @@ module _ (counts marks : List ℕ) (floats : List Float) (reference : ℕ) (firs
   small : (i : ℕ) → i < views * cameras → get_or marks i 0 ≤ 1
   small = input_marks counts marks (length floats) reference (length first) (length second) passes.passes_1_to_6
 
-  finite : lowest_not_finite grid ≡ none
+  finite : lowest_not_finite grid ≡ None
   unfolding not_finite
   finite = refuse_at-nothing _ _ passes.passes_7
 
@@ -95,7 +93,7 @@ module _ (counts marks : List ℕ) (floats : List Float) (reference : ℕ) (firs
 
   -- ---- the lowest empty view
 
-  lowest-empty : (v : ℕ) → lowest_empty_view grid ≡ some v → LowestBelow views (λ u. HoldsAPose marks cameras u → ⊥) v
+  lowest-empty : (v : ℕ) → lowest_empty_view grid ≡ Some v → LowestBelow views (λ u. HoldsAPose marks cameras u → ⊥) v
   unfolding lowest_empty_view direct_grid
   lowest-empty v e =
       let (h, t) = lowest_passes (is_empty_view grid) views v e in
@@ -108,7 +106,7 @@ module _ (counts marks : List ℕ) (floats : List Float) (reference : ℕ) (firs
             (lowest-none_fails (is_empty_view grid) v u (lowest-before (is_empty_view grid) views v e) l));
       }
 
-  every_view_holds : lowest_empty_view grid ≡ none → EveryViewHolds marks cameras views
+  every_view_holds : lowest_empty_view grid ≡ None → EveryViewHolds marks cameras views
   unfolding lowest_empty_view direct_grid
   every_view_holds e v h =
       not-empty-holds counts marks floats reference small v h (lowest-none_fails (is_empty_view grid) views v e h)
@@ -183,17 +181,17 @@ module _ (counts marks : List ℕ) (floats : List Float) (reference : ℕ) (firs
 
     abbrev Solution : Type 0
     Solution =
-        (r ≡ Solved)
+        (r ≡ Ok tt)
         × EveryCameraChained marks cameras views reference
         × EveryViewHolds marks cameras views
         × SolvedRig marks cameras views reference floats first'' second''
 
-    solution : unreached_set grid ≡ 0 → lowest_empty_view grid ≡ none → Solution
+    solution : unreached_set grid ≡ 0 → lowest_empty_view grid ≡ None → Solution
     unfolding outcome_of answered
     solution reached full =
-        let free : direct_refusal counts marks floats reference (length first) (length second) ≡ none =
+        let free : direct_refusal counts marks floats reference (length first) (length second) ≡ None =
         direct_is_grid counts marks floats reference first second passes.passes_1_to_6 ∙ not-refused grid finite reached full in (
-          refused_by none (not-refused grid finite reached full),
+          refused_by None (not-refused grid finite reached full),
           every_chained reached,
           every_view_holds full,
           subst (λ (l : List Float). SolvedRig marks cameras views reference floats l second'')
@@ -214,32 +212,29 @@ module _ (counts marks : List ℕ) (floats : List Float) (reference : ℕ) (firs
             (record {
               some_unchained = some_unchained other;
               detail = unreached_set grid;
-              is_8 = (Unreached (unreached_set grid), refused_by (some (Unreached (unreached_set grid))) (refused-unreached grid finite other), refl, refl);
+              is_8 = (Unreached (unreached_set grid), refused_by (Some (Unreached (unreached_set grid))) (refused-unreached grid finite other), refl, refl);
               precisely = names_unchained;
             }))
         go (yes reached) = then (lowest_empty_view grid) refl
           where
             then : (o : Option ℕ) → lowest_empty_view grid ≡ o
                 → Solution ⊎ (RefusedUnchained marks cameras views reference r ⊎ RefusedEmpty marks cameras views reference r)
-            then none e = inl (solution reached e)
-            then (some v) e =
+            then None e = inl (solution reached e)
+            then (Some v) e =
                 inr
                 (inr
                 (record {
                   every_chained = every_chained reached;
                   detail = v;
-                  is_9 = (EmptyView v, refused_by (some (EmptyView v)) (refused-empty_view grid finite reached v e), refl, refl);
+                  is_9 = (EmptyView v, refused_by (Some (EmptyView v)) (refused-empty_view grid finite reached v e), refl, refl);
                   is_lowest = lowest-empty v e;
                 }))
-
-    not_solved : (q : Refusal) → r ≡ Refused q → r ≡ Solved → ⊥
-    not_solved q e f = let z : ◌≡◌ {A = ℕ} 0 1 = cc in omega arith
 
     demanded : Demand3 counts marks floats reference r first'' second''
     demanded =
         record {
           solved_exactly = (
-            λ e. ⊎_elim (λ s. (s.1, s.2)) (⊎_elim (λ o. absurd (not_solved _ o.is_8.1 e)) (λ o. absurd (not_solved _ o.is_9.1 e))) case,
+            λ e. ⊎_elim (λ s. (s.1, s.2)) (⊎_elim (λ o. cc o.is_8.1) (λ o. cc o.is_9.1)) case,
             λ every.
                 ⊎_elim (λ s. s.0)
                 (⊎_elim (λ o. absurd (o.some_unchained.2 (every.0 o.some_unchained.0 o.some_unchained.1)))
@@ -253,7 +248,7 @@ module _ (counts marks : List ℕ) (floats : List Float) (reference : ℕ) (firs
               (⊎_elim (λ o. absurd (o.some_unchained.2 (every o.some_unchained.0 o.some_unchained.1))) (λ o. o))
               case;
           solved_rig = λ e.
-              ⊎_elim (λ s. s.3) (⊎_elim (λ o. absurd (not_solved _ o.is_8.1 e)) (λ o. absurd (not_solved _ o.is_9.1 e))) case;
+              ⊎_elim (λ s. s.3) (⊎_elim (λ o. cc o.is_8.1) (λ o. cc o.is_9.1)) case;
         }
 
 -- Whatever the inputs, and whatever stood in the lent answers: where the call is well formed, so that the checks before 8 pass, what the direct call

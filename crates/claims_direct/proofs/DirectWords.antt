@@ -2,7 +2,7 @@
 -- something is what the call refuses with (`direct_refusal_found`). Assumes nothing.
 use Rattle.std.proofs.Common.{◌≡◌, ℕ, zero, suc, ◌*◌, ◌<◌, ◌≤◌, Bool, true, false, not, ◌||◌, T, eqb, ltb, leb, ◌≢◌, ◌⊎◌, ◌↔◌, List, [], ◌∷◌, ◌++◌, length, get_or, drop, sym, refl, ap, ◌∙◌, ap₂, inl, inr, ⊎_elim, arith, ltb-true, lt-ltb, eq-eqb, ne_eqb, eqb-true, le-leb, leb-true}
 use mathlib.Core.Bool.{false≢true}
-use mathlib.Core.Option.{Option, none}
+use Rattle.std.specs.Prelude.{Option, None}
 use lib.Ieee.{Float}
 use borrow.Author.Tests.{eqb-false, not-true}
 use Rattle.arithmetic.specs.Pose.{pose_at, finite_pose}
@@ -144,7 +144,7 @@ module _ (counts marks : List ℕ) (floats : List Float) (reference : ℕ) (firs
       (λ i l. (ltb-true 1 (get_or marks i 0), lt-ltb 1 (get_or marks i 0))) 6 BadMark (λ d. refl) (λ d. refl)
 
   -- Where 1 to 6 find nothing.
-  module _ (passes : input_refusal counts marks (length floats) reference (length first) (length second) ≡ none) where
+  module _ (passes : input_refusal counts marks (length floats) reference (length first) (length second) ≡ None) where
     small : (i : ℕ) → i < cell_count counts → get_or marks i 0 ≤ 1
     small = input_marks counts marks (length floats) reference (length first) (length second) passes
 
@@ -224,7 +224,7 @@ module _ (counts marks : List ℕ) (floats : List Float) (reference : ℕ) (firs
   direct_refusal_found =
       ap₂ or_else input_refusal_found (or_else_none (grid_refusal grid)) ∙ sym (first_of_append (size_found views cameras reference ++ input_found) grid_found)
 
-  inputs_pass : Sizes views cameras reference → AllNone input_found → input_refusal counts marks (length floats) reference (length first) (length second) ≡ none
+  inputs_pass : Sizes views cameras reference → AllNone input_found → input_refusal counts marks (length floats) reference (length first) (length second) ≡ None
   unfolding input_refusal
   inputs_pass s h = all_none_first_of (size_refusal views cameras reference ∷ input_found) (size_refusal-sizes views cameras reference s, h)
 

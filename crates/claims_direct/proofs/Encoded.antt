@@ -1,28 +1,22 @@
 -- Every grid that the Rust function takes has counts, marks and floats that hold it; where no view has 2^32 cameras or more, the counts are those of 32 bits
 -- that the direct call takes. So what is said of encoded grids is said of all such. Assumes nothing.
-use Rattle.std.proofs.Common.{◌≡◌, ℕ, ◌+◌, ◌*◌, ◌/◌, ◌%◌, ◌<◌, ◌≤◌, List, map, length, get_or, refl, ap, ◌∙◌, ap₂, arith}
-use mathlib.Core.Option.{Option, none, some}
+use Rattle.std.proofs.Common.{◌≡◌, ℕ, ◌+◌, ◌*◌, ◌/◌, ◌%◌, ◌<◌, List, map, length, get_or, refl, ap, ◌∙◌, ap₂, arith}
+use Rattle.std.specs.Prelude.{Option, None, Some}
 use lib.Ieee.{Float, nan}
-use Rattle.arithmetic.specs.Pose.{flat, pose_at}
+use Rattle.arithmetic.specs.Pose.{flat}
 use Rattle.arithmetic.specs.declared.pose.Pose.{Pose}
 use Rattle.lists.specs.Lists.{tabulate}
 use Rattle.claims_direct.specs.Rust.{num_views, num_cameras}
 use Rattle.claims_direct.specs.Encoding.{mark_for, pose_of, EncodesCells, Encodes}
+use Rattle.claims_direct.proofs.Blocks.{pose_at-flat}
 use Rattle.lists.proofs.Tabulated.{length-tabulate, get_d_tabulate}
 use Rattle.placing.proofs.ViewCells.{row_inside, row-quotient, row_remainder}
 
 -- ---- one cell
 
 float_for : Option Pose → ℕ → Float
-float_for none k = nan
-float_for (some p) k = get_or (flat p) k nan
-
--- Floats that read so are the pose's.
-pose_at_float_for : (floats : List Float) (i : ℕ) (p : Pose) → ((k : ℕ) → k < 7 → get_or floats (7 * i + k) nan ≡ float_for (some p) k) → pose_at floats (7 * i) ≡ p
-unfolding pose_at float_for
-pose_at_float_for floats i p h =
-    let first : get_or floats (7 * i) nan ≡ float_for (some p) 0 = ap (λ (j : ℕ). get_or floats j nan) (omega arith) ∙ h 0 (omega arith) in
-    rw (first, h 1 (omega arith), h 2 (omega arith), h 3 (omega arith), h 4 (omega arith), h 5 (omega arith), h 6 (omega arith))
+float_for None k = nan
+float_for (Some p) k = get_or (flat p) k nan
 
 -- ---- all cells
 
@@ -53,6 +47,7 @@ module _ (camSe3Target : List (List (Option Pose))) where
       ap₂ (pose_of camSe3Target) (row-quotient v (num_cameras camSe3Target) c k) (row_remainder v (num_cameras camSe3Target) c k)
 
   encodes_cells : EncodesCells camSe3Target marks floats
+  unfolding float_for
   encodes_cells = record {
     mark_each = length-tabulate cells (λ i. mark_for (pose_in i));
     seven_each = length-tabulate (7 * cells) (λ j. float_for (pose_in (j / 7)) (j % 7));
@@ -60,7 +55,7 @@ module _ (camSe3Target : List (List (Option Pose))) where
         get_or-marks (v * num_cameras camSe3Target + c) (row_inside v (num_views camSe3Target) (num_cameras camSe3Target) c h k) ∙ ap mark_for (pose_in_row v c k);
     cell_pose = λ v c h k p e.
         let i = v * num_cameras camSe3Target + c in
-        pose_at_float_for floats i p
+        pose_at-flat floats (7 * i) p
         (λ n m.
         get_or-floats i n (row_inside v (num_views camSe3Target) (num_cameras camSe3Target) c h k) m
         ∙ ap (λ (o : Option Pose). float_for o n) (pose_in_row v c k ∙ e));

@@ -1,7 +1,7 @@
 -- A pose among floats is not finite exactly where one of its seven numbers is not (`finite_pose_numbers`). Assumes nothing.
 use Rattle.std.proofs.Common.{◌≡◌, ℕ, zero, suc, ◌+◌, ◌<◌, Bool, true, false, not, ◌↔◌, List, get_or, sym, refl, ◌∙◌, subst, true≢false, arith}
 use mathlib.Core.Bool.{and-false}
-use mathlib.Core.Option.{Option, none, some}
+use Rattle.std.specs.Prelude.{Option, None, Some}
 use lib.Ieee.{Float, nan}
 use lib.Ieee.Scale.{finite}
 use borrow.Author.Tests.{not-true, not-false}
@@ -36,8 +36,8 @@ module _ (floats : List Float) (at : ℕ) where
   some-not_finite e = go (lowest (λ k. not (is_finite k)) 7) refl
     where
       go : (o : Option ℕ) → lowest (λ k. not (is_finite k)) 7 ≡ o → NotAllFinite floats at
-      go (some k) f = let (l, t) = lowest_passes (λ k. not (is_finite k)) 7 k f in (k, l, not-true (is_finite k) t)
-      go none f =
+      go (Some k) f = let (l, t) = lowest_passes (λ k. not (is_finite k)) 7 k f in (k, l, not-true (is_finite k) t)
+      go None f =
           absurd
           (true≢false (sym (all_finite (λ k l. not-false (is_finite k) (lowest-none_fails (λ k. not (is_finite k)) 7 k f l))) ∙ e))
 

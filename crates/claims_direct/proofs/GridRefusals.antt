@@ -1,7 +1,7 @@
 -- Refusals 8 and 9 of a grid in terms of the list of cameras without a place, and its transforms in terms of its lists of poses.
 -- Assumes nothing.
 use Rattle.std.proofs.Common.{◌≡◌, ℕ, ◌<◌, Bool, true, not, eqb, List, [], ◌∷◌, ◌++◌, sym, refl, ap, ◌∙◌, ap₂}
-use mathlib.Core.Option.{Option, none, some}
+use Rattle.std.specs.Prelude.{Option, None, Some}
 use lib.Ieee.{Float}
 use borrow.Author.Tests.{not-false}
 use Rattle.refusal.specs.Table.{refuse_if, refuse_at, or_else}
@@ -17,10 +17,10 @@ use Rattle.claims_direct.proofs.Gathered.{flat_all-tabulate}
 use Rattle.claims_direct.proofs.Ascending.{filter-range-empty, powers_of-filter-range, is_empty_powers_of}
 
 -- A last check that refuses nothing changes nothing.
-pub or_else_none : (o : Option Refusal) → or_else o none ≡ o
+pub or_else_none : (o : Option Refusal) → or_else o None ≡ o
 unfolding or_else
-or_else_none none = refl
-or_else_none (some r) = refl
+or_else_none None = refl
+or_else_none (Some r) = refl
 
 -- The cameras without a place, ascending.
 abbrev pub left : Grid → List ℕ
@@ -38,12 +38,12 @@ module _ (g : Grid) where
       ∙ ap (λ (b : Bool). refuse_if (not b) (Unreached (powers_of l))) (sym (is_empty_powers_of l))
 
   -- Where 7 refuses nothing.
-  module _ (finite : not_finite g ≡ none) where
-    grid_refusal-left : (l : List ℕ) → left g ≡ l → grid_refusal g ≡ or_else (refuse_if (not (is_empty l)) (Unreached (powers_of l))) (or_else (empty_view g) none)
+  module _ (finite : not_finite g ≡ None) where
+    grid_refusal-left : (l : List ℕ) → left g ≡ l → grid_refusal g ≡ or_else (refuse_if (not (is_empty l)) (Unreached (powers_of l))) (or_else (empty_view g) None)
     unfolding grid_refusal or_else
-    grid_refusal-left l e = ap₂ (λ (o p : Option Refusal). or_else o (or_else p (or_else (empty_view g) none))) finite (unreached-left l e)
+    grid_refusal-left l e = ap₂ (λ (o p : Option Refusal). or_else o (or_else p (or_else (empty_view g) None))) finite (unreached-left l e)
 
-    pub grid_refusal-unreached : (c : ℕ) (l : List ℕ) → left g ≡ c ∷ l → grid_refusal g ≡ some (Unreached (powers_of (c ∷ l)))
+    pub grid_refusal-unreached : (c : ℕ) (l : List ℕ) → left g ≡ c ∷ l → grid_refusal g ≡ Some (Unreached (powers_of (c ∷ l)))
     unfolding refuse_if or_else
     grid_refusal-unreached c l e = grid_refusal-left (c ∷ l) e
 

@@ -1,7 +1,7 @@
 -- Laws of the Rust's ranges, iterators and `for` loops: over a tabulated list each is a count, a gathering or a search over its indexes.
 -- Assumes nothing.
 use Rattle.std.proofs.Common.{◌≡◌, ℕ, zero, suc, ◌+◌, ◌<◌, Bool, true, false, cond, List, [], ◌∷◌, ◌++◌, length, get_or, refl, ap, ◌∙◌, arith, length-append}
-use mathlib.Core.Option.{Option, none, some}
+use Rattle.std.specs.Prelude.{Option, None, Some}
 use Rattle.lists.specs.Finding.{count, lowest}
 use Rattle.lists.specs.Lists.{tabulate, gather}
 use Rattle.claims_direct.specs.RustStd.{Result, ok, err, neither, ◌>>=◌, range, enumerate_from, enumerate, for_each, filter, cons_some, filter_map}
@@ -67,8 +67,8 @@ module _ {A B : Type 0} (f : A → Option B) where
   filter_map_append (a ∷ l) m = rw (filter_map_append l m) (go (f a))
     where
       go : (o : Option B) → cons_some o (filter_map f l ++ filter_map f m) ≡ cons_some o (filter_map f l) ++ filter_map f m
-      go none = refl
-      go (some b) = refl
+      go None = refl
+      go (Some b) = refl
 
   pub filter_map_tabulate : (g : ℕ → A) (n : ℕ) → filter_map f (tabulate n g) ≡ gather n (λ i. cons_some (f (g i)) [])
   unfolding tabulate gather filter_map
@@ -80,8 +80,8 @@ module _ {A B : Type 0} (f : A → Option B) where
 
 -- Where a loop stops at a turn, that turn's error, and else the state.
 abbrev pub stopped : {E S : Type 0} → (ℕ → E) → Option ℕ → S → Result E S
-stopped e none s = ok s
-stopped e (some i) s = err (e i)
+stopped e None s = ok s
+stopped e (Some i) s = err (e i)
 
 module _ {E A S : Type 0} (body : A → S → Result E S) where
   for_each-append : (l m : List A) (s : S) → for_each (l ++ m) body s ≡ (for_each l body s >>= λ t. for_each m body t)
@@ -129,11 +129,11 @@ module _ {E A S : Type 0} (body : A → S → Result E S) where
   for_each-lowest f state test e zero h = refl
   for_each-lowest f state test e (suc n) h = go (lowest test n) (for_each-lowest f state test e n (λ i l. h i (omega arith)))
     where
-      last : (t : Bool) → cond t (err (e n)) (ok (state (suc n))) ≡ stopped e (cond t (some n) none) (state (suc n))
+      last : (t : Bool) → cond t (err (e n)) (ok (state (suc n))) ≡ stopped e (cond t (Some n) None) (state (suc n))
       last true = refl
       last false = refl
 
       go : (o : Option ℕ) → for_each (tabulate n f) body (state 0) ≡ stopped e o (state n)
-          → for_each (tabulate (suc n) f) body (state 0) ≡ stopped e (elim o [ some i ↦ some i | none ↦ cond (test n) (some n) none ]) (state (suc n))
-      go none r = for_each_more f n (state 0) (state n) r ∙ h n (omega arith) ∙ last (test n)
-      go (some i) r = for_each-after f n (state 0) (e i) r
+          → for_each (tabulate (suc n) f) body (state 0) ≡ stopped e (elim o [ Some i ↦ Some i | None ↦ cond (test n) (Some n) None ]) (state (suc n))
+      go None r = for_each_more f n (state 0) (state n) r ∙ h n (omega arith) ∙ last (test n)
+      go (Some i) r = for_each-after f n (state 0) (e i) r

@@ -15,8 +15,8 @@ pub mod RustSteps
 pub mod GridRefusals
 pub mod Agreement
 pub mod CallAgrees
-pub mod Encoded
 pub mod Blocks
+pub mod Encoded
 pub mod MarkedViews
 pub mod Naming
 pub mod ReadBack

@@ -2,22 +2,20 @@
 -- empty, and the candidates of links and targets. Assumes nothing.
 use Rattle.std.proofs.Common.{◌≡◌, ℕ, ◌+◌, ◌*◌, ◌<◌, ◌≤◌, Bool, true, false, cond, ◌&&◌, T, eqb, List, [], ◌∷◌, length, get_or, sym, refl, ap, ◌∙◌, subst, ap₂, true≢false, arith, eq-eqb, ne_eqb, eqb-true}
 use mathlib.Core.Bool.{false≢true}
-use mathlib.Core.Option.{Option, none, some}
+use Rattle.std.specs.Prelude.{Option, None, Some}
 use lib.Ieee.{Float}
 use borrow.Author.Tests.{eqb-false}
 use Rattle.arithmetic.specs.Pose.{pose_at, mul_pose, inverse_pose}
 use Rattle.mean.specs.Average.{average_isometries}
 use Rattle.arithmetic.specs.declared.pose.Pose.{Pose}
 use Rattle.chains.specs.Shared.{shared}
-use Rattle.placing.specs.Grid.{Grid, is_held, cell_of, holds, shared_views}
+use Rattle.placing.specs.Grid.{Grid, is_held, cell_of, holds, shared_views, Cell}
 use Rattle.placing.specs.Estimate.{link_candidate, target_candidate, link_candidates, averaged_link, rig_se3_cam, target_candidates}
 use Rattle.lists.specs.Finding.{lowest}
 use Rattle.extrinsics.specs.Outcome.{is_empty_view}
 use Rattle.inputs.specs.Inputs.{cell_count}
 use Rattle.extrinsics.specs.Direct.{marked_cell, direct_grid}
 use Rattle.claims_direct.specs.Demand3.{marked, HoldsAPose, marked_shared, target_pose, links_over, averaged_link_over, targets_over}
-use Rattle.placing.specs.declared.grid.Cell.{Cell}
-use Rattle.placing.specs.declared.grid.Cell.TheVariants.{Empty, Held}
 use Rattle.lists.proofs.Counting.{count_agree}
 use Rattle.lists.proofs.Tabulated.{get_d_tabulate}
 use Rattle.lists.proofs.Lowest.{lowest_passes, lowest-none_fails}
@@ -28,7 +26,7 @@ use Rattle.placing.proofs.ViewCells.{row_inside, is_held_cond}
 
 -- A cell that is held where the flag says so.
 abbrev cell_if : Bool → Pose → Cell
-cell_if b p = cond b (Held p) Empty
+cell_if b p = cond b (Some p) None
 
 link_candidate_cell_if : (a b : Bool) (p q : Pose) → link_candidate (cell_if a p) (cell_if b q) ≡ cond (a && b) (mul_pose p (inverse_pose q) ∷ []) []
 unfolding link_candidate
@@ -67,8 +65,8 @@ module _ (counts marks : List ℕ) (floats : List Float) (reference : ℕ) (smal
     unfolding direct_grid marked_cell marked target_pose
     cell_of_cell_if =
         let inside : v * cameras + c < cell_count counts = row_inside v views cameras c view_inside camera_inside in
-        get_d_tabulate (cell_count counts) (marked_cell marks floats) Empty (v * cameras + c) inside
-        ∙ cond_mark (get_or marks (v * cameras + c) 0) Empty (Held (pose_at floats (7 * (v * cameras + c)))) (small (v * cameras + c) inside)
+        get_d_tabulate (cell_count counts) (marked_cell marks floats) None (v * cameras + c) inside
+        ∙ cond_mark (get_or marks (v * cameras + c) 0) None (Some (pose_at floats (7 * (v * cameras + c)))) (small (v * cameras + c) inside)
 
     pub holds-marked : holds grid v c ≡ marked marks cameras v c
     holds-marked = ap is_held cell_of_cell_if ∙ is_held_cond (marked marks cameras v c) (target_pose floats cameras v c)
@@ -85,17 +83,17 @@ module _ (counts marks : List ℕ) (floats : List Float) (reference : ℕ) (smal
   unfolding is_empty_view direct_grid
   empty-holds-none v h e (c, l, t) = go (lowest (holds grid v) cameras) refl e
     where
-      go : (o : Option ℕ) → lowest (holds grid v) cameras ≡ o → (elim o [ some i ↦ false | none ↦ true ]) ≡ true → ⊥
-      go (some i) f q = false≢true q
-      go none f q = subst T (sym (holds-marked v c h l) ∙ lowest-none_fails (holds grid v) cameras c f l) t
+      go : (o : Option ℕ) → lowest (holds grid v) cameras ≡ o → (elim o [ Some i ↦ false | None ↦ true ]) ≡ true → ⊥
+      go (Some i) f q = false≢true q
+      go None f q = subst T (sym (holds-marked v c h l) ∙ lowest-none_fails (holds grid v) cameras c f l) t
 
   pub not-empty-holds : (v : ℕ) → v < views → is_empty_view grid v ≡ false → HoldsAPose marks cameras v
   unfolding is_empty_view direct_grid
   not-empty-holds v h e = go (lowest (holds grid v) cameras) refl e
     where
-      go : (o : Option ℕ) → lowest (holds grid v) cameras ≡ o → (elim o [ some i ↦ false | none ↦ true ]) ≡ false → HoldsAPose marks cameras v
-      go none f q = absurd (true≢false q)
-      go (some c) f q =
+      go : (o : Option ℕ) → lowest (holds grid v) cameras ≡ o → (elim o [ Some i ↦ false | None ↦ true ]) ≡ false → HoldsAPose marks cameras v
+      go None f q = absurd (true≢false q)
+      go (Some c) f q =
           let (l, p) = lowest_passes (holds grid v) cameras c f in
           (c, l, subst T (sym p ∙ holds-marked v c h l) tt)
 

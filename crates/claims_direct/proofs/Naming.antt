@@ -1,7 +1,7 @@
 -- Which numbers a sum of powers of two names: those below the bound that pass the test, and no others. Assumes nothing.
 use Rattle.std.proofs.Common.{◌≡◌, ℕ, zero, suc, ◌<◌, Bool, true, false, T, ◌↔◌, sym, refl, ◌∙◌, subst, arith}
 use native.Mathlib.Decide.{dec_lt}
-use mathlib.Core.Option.{Option, none, some}
+use Rattle.std.specs.Prelude.{Option, None, Some}
 use Rattle.lists.specs.Masks.{in_mask}
 use Rattle.lists.specs.Finding.{lowest, power_sum}
 use Rattle.lists.proofs.Lowest.{lowest_passes, lowest-none_fails}
@@ -34,5 +34,5 @@ module _ (test : ℕ → Bool) (n : ℕ) where
   power_sum-some other = go (lowest test n) refl
     where
       go : (o : Option ℕ) → lowest test n ≡ o → (c : ℕ) × (c < n) × (test c ≡ true)
-      go (some c) e = let (l, p) = lowest_passes test n c e in (c, l, p)
-      go none e = absurd (other (power_sum_agree test (λ i. false) n (λ i l. lowest-none_fails test n i e l) ∙ power_sum-none n))
+      go (Some c) e = let (l, p) = lowest_passes test n c e in (c, l, p)
+      go None e = absurd (other (power_sum_agree test (λ i. false) n (λ i l. lowest-none_fails test n i e l) ∙ power_sum-none n))

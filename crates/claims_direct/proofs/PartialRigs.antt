@@ -2,7 +2,7 @@
 -- before the first turn, in the middle of a turn, after each layer and at the end. Assumes nothing.
 use Rattle.std.proofs.Common.{◌≡◌, ℕ, suc, ◌<◌, ◌≤◌, Bool, true, false, cond, T, eqb, ltb, ◌≢◌, List, [], ◌∷◌, ◌++◌, get_or, set, replicate, sym, refl, ap, ◌∙◌, subst, arith, length-set, get_or-set_other, get_or-set_same, ext_get_or, le-ltb, lt-ltb, eq-eqb, ne_eqb}
 use native.Mathlib.Decide.{ℕ_discrete, dec_lt}
-use mathlib.Core.Option.{Option, none, some}
+use Rattle.std.specs.Prelude.{Option, None, Some}
 use lib.ListN.{length-replicate, get_or-replicate}
 use Rattle.arithmetic.specs.Pose.{mul_pose, identity_pose}
 use Rattle.arithmetic.specs.declared.pose.Pose.{Pose}
@@ -44,8 +44,8 @@ replicate-tabulate n a =
 
 -- The pose of a camera that has a place.
 abbrev pub pose_in : Spot → Pose → Option Pose
-pose_in not_placed p = none
-pose_in (placed q d) p = some p
+pose_in not_placed p = None
+pose_in (placed q d) p = Some p
 
 pub is_some_pose_in : (s : Spot) (p : Pose) → is_some (pose_in s p) ≡ is_placed s
 unfolding is_placed
@@ -116,14 +116,14 @@ module _ (g : Grid) where
       go true = spot_next g.cameras (shared_views g) one_view g.reference k c p d h e
       go false = e
 
-  pub get_or_mid_rig_waiting : (k m : ℕ) → m < g.cameras → get_or (mid_rig k m) m none ≡ pose_in (spot_of k m) (rig_se3_cam g m)
+  pub get_or_mid_rig_waiting : (k m : ℕ) → m < g.cameras → get_or (mid_rig k m) m None ≡ pose_in (spot_of k m) (rig_se3_cam g m)
   get_or_mid_rig_waiting k m h =
-      get_d_tabulate g.cameras (λ c. pose_in (mid_spot k m c) (rig_se3_cam g c)) none m h
+      get_d_tabulate g.cameras (λ c. pose_in (mid_spot k m c) (rig_se3_cam g c)) None m h
       ∙ ap (λ (s : Spot). pose_in s (rig_se3_cam g m)) (mid_spot_waiting k m m (omega arith))
 
-  pub get_or_mid_rig_placed : (k m c p d : ℕ) → c < g.cameras → spot_of k c ≡ placed p d → get_or (mid_rig k m) c none ≡ some (rig_se3_cam g c)
+  pub get_or_mid_rig_placed : (k m c p d : ℕ) → c < g.cameras → spot_of k c ≡ placed p d → get_or (mid_rig k m) c None ≡ Some (rig_se3_cam g c)
   get_or_mid_rig_placed k m c p d h e =
-      get_d_tabulate g.cameras (λ c. pose_in (mid_spot k m c) (rig_se3_cam g c)) none c h
+      get_d_tabulate g.cameras (λ c. pose_in (mid_spot k m c) (rig_se3_cam g c)) None c h
       ∙ ap (λ (s : Spot). pose_in s (rig_se3_cam g c)) (mid_spot_placed k m c p d h e)
 
   -- A visit changes the spot of the camera visited at most.
@@ -157,10 +157,10 @@ module _ (g : Grid) where
       filter-range_out (of_layer g.cameras (shared_views g) one_view g.reference (suc k)) m (kept_not_of_layer g.cameras (shared_views g) one_view g.reference k m h e)
 
   -- A camera that the turn places.
-  pub mid_rig_placed : (k m p : ℕ) → m < g.cameras → spot_of (suc k) m ≡ placed p (suc k) → mid_rig k (suc m) ≡ set (mid_rig k m) m (some (rig_se3_cam g m))
+  pub mid_rig_placed : (k m p : ℕ) → m < g.cameras → spot_of (suc k) m ≡ placed p (suc k) → mid_rig k (suc m) ≡ set (mid_rig k m) m (Some (rig_se3_cam g m))
   mid_rig_placed k m p h e =
       sym
-      (set-tabulate none g.cameras _ _ m (some (rig_se3_cam g m)) h
+      (set-tabulate None g.cameras _ _ m (Some (rig_se3_cam g m)) h
       (ap (λ (s : Spot). pose_in s (rig_se3_cam g m)) (mid_spot_visited k (suc m) m (omega arith) ∙ e))
       (λ c l n. ap (λ (s : Spot). pose_in s (rig_se3_cam g c)) (mid_spot_other k m c n)))
 
@@ -196,11 +196,11 @@ module _ (g : Grid) where
     spot_first : spot_of 0 g.reference ≡ placed g.reference 0
     spot_first = spot_reference g.cameras (shared_views g) one_view g.reference inside
 
-    pub rig_after_zero : set (replicate g.cameras none) g.reference (some identity_pose) ≡ rig_after 0
+    pub rig_after_zero : set (replicate g.cameras None) g.reference (Some identity_pose) ≡ rig_after 0
     rig_after_zero =
-        ap (λ (l : List (Option Pose)). set l g.reference (some identity_pose)) (replicate-tabulate g.cameras none)
-        ∙ set-tabulate none g.cameras (λ c. none) (λ c. pose_in (spot_of 0 c) (rig_se3_cam g c)) g.reference (some identity_pose) inside
-        (ap (λ (s : Spot). pose_in s (rig_se3_cam g g.reference)) spot_first ∙ ap some (rig_se3_cam-reference g inside))
+        ap (λ (l : List (Option Pose)). set l g.reference (Some identity_pose)) (replicate-tabulate g.cameras None)
+        ∙ set-tabulate None g.cameras (λ c. None) (λ c. pose_in (spot_of 0 c) (rig_se3_cam g c)) g.reference (Some identity_pose) inside
+        (ap (λ (s : Spot). pose_in s (rig_se3_cam g g.reference)) spot_first ∙ ap Some (rig_se3_cam-reference g inside))
         (λ c l n. ap (λ (s : Spot). pose_in s (rig_se3_cam g c)) (spot_other c l n))
 
     pub layer_at_zero : layer_at 0 ≡ g.reference ∷ []

@@ -4,7 +4,7 @@ use Rattle.std.proofs.Common.{◌≡◌, ◌<◌, Bool, true, false, cond, List,
 use mathlib.Core.List.{foldl}
 use lib.Ieee.{eq}
 use Rattle.arithmetic.specs.Double.{Zero}
-use Rattle.arithmetic.specs.Pose.{zero_vec, identity_quat, norm_squared, pose}
+use Rattle.arithmetic.specs.Pose.{zero_vec, identity_quat, norm_squared, pose, over_vec, over_quat}
 use Rattle.arithmetic.specs.declared.pose.Vec3.{Vec3}
 use Rattle.arithmetic.specs.declared.pose.Quaternion.{Quaternion}
 use Rattle.arithmetic.specs.declared.pose.Pose.{Pose}
@@ -45,8 +45,8 @@ average_isometries?-cons p poses =
     let sum = ours.rotation_sum p.rotation l in
     let count = as_real (length l) in
     rw (for_each_translations l zero_vec, for_each_rotations p.rotation l ours.zero_quat)
-    (either_rotation (eq (norm_squared sum) Zero) (ours.over_vec (ours.translation_sum l) count) identity_quat
-    (ours.normalize (ours.normalize (ours.over_quat sum count))))
+    (either_rotation (eq (norm_squared sum) Zero) (over_vec (ours.translation_sum l) count) identity_quat
+    (ours.normalize (ours.normalize (over_quat sum count))))
 
 -- The same of a list by its length.
 pub average_isometries?-ok : (l : List Pose) → 0 < length l → average_isometries? l ≡ ok (ours.average_isometries l)

@@ -1,7 +1,7 @@
 -- The Rust's `while` loop places cameras as our layers do: after k turns `rig_se3_cam` is the rig after layer k, and `layer` is layer k.
 -- In a turn cameras are visited in ascending order, and no visit sees what the turn has placed before it. Assumes nothing.
 use Rattle.std.proofs.Common.{◌≡◌, ℕ, zero, suc, ◌+◌, ◌<◌, ◌≤◌, Bool, true, false, not, ◌&&◌, T, eqb, ltb, ◌≢◌, List, [], ◌∷◌, ◌++◌, get_or, set, replicate, sym, refl, ap, ◌∙◌, subst, ap₂, arith, ne_eqb}
-use mathlib.Core.Option.{Option, none, some, map}
+use Rattle.std.specs.Prelude.{Option, None, Some, option_map}
 use Rattle.arithmetic.specs.Pose.{mul_pose, identity_pose}
 use Rattle.arithmetic.proofs.Numbers.{mul_iso-mul_pose}
 use Rattle.arithmetic.specs.declared.pose.Pose.{Pose}
@@ -23,17 +23,17 @@ use Rattle.claims_direct.proofs.PartialRigs.{pose_in, spot_of, offer_to, layer_a
 -- ---- what a visit does
 
 module _ (camSe3Target : List (List (Option Pose))) (layer : List ℕ) (c : ℕ) (rig : List (Option Pose)) (next : List ℕ) where
-  visit_skips : is_some (get_or rig c none) ≡ true → visit camSe3Target layer c (rig, next) ≡ ok (rig, next)
+  visit_skips : is_some (get_or rig c None) ≡ true → visit camSe3Target layer c (rig, next) ≡ ok (rig, next)
   unfolding visit
   visit_skips e = rw (e, visit)
 
-  visit_goes_on : is_some (get_or rig c none) ≡ false → (o : Option (ℕ × ℕ)) → parent_in camSe3Target layer c ≡ o
+  visit_goes_on : is_some (get_or rig c None) ≡ false → (o : Option (ℕ × ℕ)) → parent_in camSe3Target layer c ≡ o
       → visit camSe3Target layer c (rig, next) ≡ place camSe3Target o c (rig, next)
   unfolding visit
   visit_goes_on e o f = rw (← f, e, visit)
 
-  place_under : (p n : ℕ) (link pose : Pose) → average_isometries? (candidates camSe3Target p c) ≡ ok link → get_or rig p none ≡ some pose
-      → place camSe3Target (some (p, n)) c (rig, next) ≡ ok (set rig c (some (mul_pose pose link)), next ++ (c ∷ []))
+  place_under : (p n : ℕ) (link pose : Pose) → average_isometries? (candidates camSe3Target p c) ≡ ok link → get_or rig p None ≡ Some pose
+      → place camSe3Target (Some (p, n)) c (rig, next) ≡ ok (set rig c (Some (mul_pose pose link)), next ++ (c ∷ []))
   unfolding place
   place_under p n link pose e f = rw (e, f, mul_iso-mul_pose pose link)
 
@@ -45,11 +45,11 @@ module _ (camSe3Target : List (List (Option Pose))) (g : Grid) (same : SameGrid 
   linked k c p = in_layer k (spot_of g k p) && (not (eqb c p) && ltb 0 (shared_views g c p))
 
   parent_in_offer : (k c : ℕ) → c < g.cameras → spot_of g k c ≡ not_placed
-      → parent_in camSe3Target (layer_at g k) c ≡ map (with_views (λ p. shared camSe3Target p c)) (offer_to g k c)
+      → parent_in camSe3Target (layer_at g k) c ≡ option_map (with_views (λ p. shared camSe3Target p c)) (offer_to g k c)
   unfolding parent_in parent_in_layer linked_in_layer
   parent_in_offer k c h e =
       min_by-most_views (λ p. shared camSe3Target p c) (λ p. in_layer k (spot_of g k p)) g.cameras
-      ∙ ap (map (with_views (λ p. shared camSe3Target p c)))
+      ∙ ap (option_map (with_views (λ p. shared camSe3Target p c)))
       (most_views_agree (λ p. in_layer k (spot_of g k p) && ltb 0 (shared camSe3Target p c)) (linked k c) (λ p. shared camSe3Target p c) (shared_views g c) g.cameras
       same_test (λ p l t. same_shared p l))
     where
@@ -86,33 +86,33 @@ module _ (camSe3Target : List (List (Option Pose))) (g : Grid) (same : SameGrid 
 
   -- Any other is not in the rig yet, and what the layer offers it decides.
   visit_waiting : (k m : ℕ) → m < g.cameras → spot_of g k m ≡ not_placed → (o : Option ℕ) → offer_to g k m ≡ o
-      → visit camSe3Target (layer_at g k) m (mid k m) ≡ place camSe3Target (map (with_views (λ p. shared camSe3Target p m)) o) m (mid k m)
+      → visit camSe3Target (layer_at g k) m (mid k m) ≡ place camSe3Target (option_map (with_views (λ p. shared camSe3Target p m)) o) m (mid k m)
   visit_waiting k m h e o f =
       visit_goes_on camSe3Target (layer_at g k) m (mid_rig g k m) (mid_next g k m)
       (ap is_some (get_or_mid_rig_waiting g k m h) ∙ ap (λ (s : Spot). is_some (pose_in s (rig_se3_cam g m))) e)
-      (map (with_views (λ p. shared camSe3Target p m)) o)
-      (parent_in_offer k m h e ∙ ap (map (with_views (λ p. shared camSe3Target p m))) f)
+      (option_map (with_views (λ p. shared camSe3Target p m)) o)
+      (parent_in_offer k m h e ∙ ap (option_map (with_views (λ p. shared camSe3Target p m))) f)
 
   -- One to which the layer offers no parent stays out.
-  visit_unlinked : (k m : ℕ) → m < g.cameras → spot_of g k m ≡ not_placed → offer_to g k m ≡ none
+  visit_unlinked : (k m : ℕ) → m < g.cameras → spot_of g k m ≡ not_placed → offer_to g k m ≡ None
       → visit camSe3Target (layer_at g k) m (mid k m) ≡ ok (mid k (suc m))
   unfolding place next_spot
   visit_unlinked k m h e o =
-      visit_waiting k m h e none o
+      visit_waiting k m h e None o
       ∙ ap ok (mid_kept k m h (spot_suc g.cameras (shared_views g) one_view g.reference k m h ∙ ap₂ (next_spot k) e o ∙ sym e))
 
   module _ (inside : g.reference < g.cameras) where
     -- One to which the layer offers a parent gets the parent's pose times their averaged link.
-    visit-linked : (k m p : ℕ) → m < g.cameras → spot_of g k m ≡ not_placed → offer_to g k m ≡ some p
+    visit-linked : (k m p : ℕ) → m < g.cameras → spot_of g k m ≡ not_placed → offer_to g k m ≡ Some p
         → visit camSe3Target (layer_at g k) m (mid k m) ≡ ok (mid k (suc m))
     unfolding next_spot
     visit-linked k m p h e o =
-        visit_waiting k m h e (some p) o
+        visit_waiting k m h e (Some p) o
         ∙ place_under camSe3Target (layer_at g k) m (mid_rig g k m) (mid_next g k m) p (shared camSe3Target p m) (averaged_link g p m) (rig_se3_cam g p)
         (average_isometries?-candidates camSe3Target g same p m by.inside h (omega (arith, by.shares, shared_views_comm g p m)))
         (get_or_mid_rig_placed g k m p by.in_layer_is.0 k by.inside by.in_layer_is.1)
         ∙ ap₂ (λ (rig : List (Option Pose)) (next : List ℕ). ok (rig, next))
-        (ap (λ (q : Pose). set (mid_rig g k m) m (some q)) (sym (rig_se3_cam_under g inside k m p h e after)) ∙ sym (mid_rig_placed g k m p h after))
+        (ap (λ (q : Pose). set (mid_rig g k m) m (Some q)) (sym (rig_se3_cam_under g inside k m p h e after)) ∙ sym (mid_rig_placed g k m p h after))
         (sym (mid_next_placed g k m p after))
       where
         by : Offered g.cameras (shared_views g) one_view g.reference k m p
@@ -125,10 +125,10 @@ module _ (camSe3Target : List (List (Option Pose))) (g : Grid) (same : SameGrid 
     visited k m h = go (spot_of g k m) refl (offer_to g k m) refl
       where
         go : (s : Spot) → spot_of g k m ≡ s → (o : Option ℕ) → offer_to g k m ≡ o → visit camSe3Target (layer_at g k) m (mid k m) ≡ ok (mid k (suc m))
-        go (placed p d) es none eo = visit-placed k m p d h es
-        go (placed p d) es (some q) eo = visit-placed k m p d h es
-        go not_placed es none eo = visit_unlinked k m h es eo
-        go not_placed es (some p) eo = visit-linked k m p h es eo
+        go (placed p d) es None eo = visit-placed k m p d h es
+        go (placed p d) es (Some q) eo = visit-placed k m p d h es
+        go not_placed es None eo = visit_unlinked k m h es eo
+        go not_placed es (Some p) eo = visit-linked k m p h es eo
 
     -- ---- one turn, and all turns
 
@@ -159,10 +159,10 @@ module _ (camSe3Target : List (List (Option Pose))) (g : Grid) (same : SameGrid 
         go (c ∷ l) e t rest = rw t (rest (layer_below g k c l e))
 
     pub whileLayer-final :
-        while_layer camSe3Target (suc (num_cameras camSe3Target)) (set (replicate (num_cameras camSe3Target) none) g.reference (some identity_pose)) (g.reference ∷ [])
+        while_layer camSe3Target (suc (num_cameras camSe3Target)) (set (replicate (num_cameras camSe3Target) None) g.reference (Some identity_pose)) (g.reference ∷ [])
         ≡ ok (rig_final g)
     whileLayer-final =
         ap₂ (while_layer camSe3Target (suc (num_cameras camSe3Target)))
-        (ap (λ (n : ℕ). set (replicate n none) g.reference (some identity_pose)) (sym same.same_cameras) ∙ rig_after_zero g inside)
+        (ap (λ (n : ℕ). set (replicate n None) g.reference (Some identity_pose)) (sym same.same_cameras) ∙ rig_after_zero g inside)
         (sym (layer_at_zero g inside))
         ∙ while_layer-rest (suc (num_cameras camSe3Target)) 0 (omega (arith, same.same_cameras)) (omega arith)

@@ -1,7 +1,7 @@
 -- The Rust function taken step by step: which test stops it with which error, what the loop is given, and what follows the loop.
 -- Assumes nothing.
 use Rattle.std.proofs.Common.{◌≡◌, ℕ, suc, true, false, not, eqb, leb, List, [], ◌∷◌, set, replicate}
-use mathlib.Core.Option.{Option, none, some}
+use Rattle.std.specs.Prelude.{Option, None, Some}
 use Rattle.arithmetic.specs.Pose.{identity_pose}
 use Rattle.arithmetic.specs.declared.pose.Pose.{Pose}
 use Rattle.claims_direct.specs.RustStd.{Result, ok, err, ◌>>=◌, ◌>>◌, return_err_if, is_empty, enumerate, for_each, flatten}
@@ -50,7 +50,7 @@ module _ (camSe3Target : List (List (Option Pose))) (refCamIdx : ℕ) where
         rust_counts v e = rw (some_view, some_camera, inside, e)
 
         pub rust_loop : (rig : List (Option Pose)) → check_counts camSe3Target ≡ ok tt
-            → while_layer camSe3Target (suc (num_cameras camSe3Target)) (set (replicate (num_cameras camSe3Target) none) refCamIdx (some identity_pose)) (refCamIdx ∷ []) ≡ ok rig
+            → while_layer camSe3Target (suc (num_cameras camSe3Target)) (set (replicate (num_cameras camSe3Target) None) refCamIdx (Some identity_pose)) (refCamIdx ∷ []) ≡ ok rig
             → estimate_extrinsics_from_cam_target_poses camSe3Target refCamIdx ≡ after_loop camSe3Target rig
         unfolding estimate_extrinsics_from_cam_target_poses
         rust_loop rig e f = rw (some_view, some_camera, inside, e, f)

@@ -2,20 +2,18 @@
 -- empty view or has our rig and target poses. Assumes nothing.
 use Rattle.std.proofs.Common.{◌≡◌, ℕ, zero, suc, ◌<◌, Bool, true, false, cond, not, List, [], ◌∷◌, ◌++◌, get_or, sym, refl, ap, ◌∙◌}
 use mathlib.Core.Bool.{false≢true}
-use mathlib.Core.Option.{Option, none, some}
+use Rattle.std.specs.Prelude.{Option, None, Some}
 use Rattle.arithmetic.specs.Pose.{identity_pose}
 use Rattle.arithmetic.proofs.Numbers.{mul_iso-mul_pose}
 use Rattle.mean.specs.Average.{average_isometries}
 use Rattle.arithmetic.specs.declared.pose.Pose.{Pose}
 use Rattle.chains.specs.Layers.{Spot, not_placed, placed, is_placed, spot_at}
 use Rattle.lists.specs.Lists.{tabulate, gather}
-use Rattle.placing.specs.Grid.{Grid, is_held, cell_of, holds, spots, has_place}
+use Rattle.placing.specs.Grid.{Grid, is_held, cell_of, holds, spots, has_place, Cell}
 use Rattle.placing.specs.Estimate.{rig_se3_cam, rig_se3_target}
 use Rattle.placing.specs.Estimate as ours
 use Rattle.lists.specs.Finding.{lowest}
 use Rattle.extrinsics.specs.Outcome.{is_empty_view, lowest_empty_view}
-use Rattle.placing.specs.declared.grid.Cell.{Cell}
-use Rattle.placing.specs.declared.grid.Cell.TheVariants.{Empty, Held}
 use Rattle.claims_direct.specs.RustStd.{ok, err, is_some, is_empty, range, enumerate, for_each, filter, cons_some, filter_map, flatten}
 use Rattle.claims_direct.specs.Rust.{no_valid_camera_poses, num_views, unreached, target_candidate, target_candidates, push_target}
 use Rattle.claims_direct.specs.Encoding.{pose_of}
@@ -25,16 +23,16 @@ use Rattle.claims_direct.proofs.Gathered.{gather-tabulate}
 use Rattle.claims_direct.proofs.Iterators.{enumerate-tabulate, filter_map_tabulate, stopped, for_each-lowest}
 use Rattle.claims_direct.proofs.Ascending.{filter-range_agree}
 use Rattle.claims_direct.proofs.RustAverage.{average_isometries?-cons}
-use Rattle.claims_direct.proofs.SameGrid.{cell_for, SameGrid}
+use Rattle.claims_direct.proofs.SameGrid.{SameGrid}
 use Rattle.claims_direct.proofs.PartialRigs.{pose_in, is_some_pose_in, rig_final}
 
 -- ---- one cell, one view
 
 cons_some-target_candidate : (rig : List Pose) (c : ℕ) (p : Pose) → get_or rig c identity_pose ≡ p → (o : Option Pose)
-    → cons_some (target_candidate rig c o) [] ≡ ours.target_candidate p (cell_for o)
+    → cons_some (target_candidate rig c o) [] ≡ ours.target_candidate p o
 unfolding target_candidate ours.target_candidate
-cons_some-target_candidate rig c p e none = refl
-cons_some-target_candidate rig c p e (some ct) = rw (e, mul_iso-mul_pose p ct)
+cons_some-target_candidate rig c p e None = refl
+cons_some-target_candidate rig c p e (Some ct) = rw (e, mul_iso-mul_pose p ct)
 
 cons_some_pose_in : (s : Spot) (p : Pose) → is_placed s ≡ true → cons_some (pose_in s p) [] ≡ p ∷ []
 unfolding is_placed
@@ -49,32 +47,28 @@ push_target-average rig v view targets [] e = rw e
 push_target-average rig v view targets (p ∷ l) e = rw (e, average_isometries?-cons p l)
 
 -- A view is empty exactly where no cell of it is held.
-nothing : Option ℕ → Bool
-nothing none = true
-nothing (some c) = false
-
 is_empty_target_candidates : (rig : ℕ → Pose) (cell : ℕ → Cell) (n : ℕ)
-    → is_empty (gather n (λ c. ours.target_candidate (rig c) (cell c))) ≡ nothing (lowest (λ c. is_held (cell c)) n)
-unfolding gather lowest nothing ours.target_candidate is_held
+    → is_empty (gather n (λ c. ours.target_candidate (rig c) (cell c))) ≡ not (is_some (lowest (λ c. is_held (cell c)) n))
+unfolding gather lowest ours.target_candidate is_held
 is_empty_target_candidates rig cell zero = refl
 is_empty_target_candidates rig cell (suc n) =
     go (gather n (λ c. ours.target_candidate (rig c) (cell c))) (lowest (λ c. is_held (cell c)) n) (cell n) (is_empty_target_candidates rig cell n)
   where
-    go : (l : List Pose) (o : Option ℕ) (k : Cell) → is_empty l ≡ nothing o
-        → is_empty (l ++ ours.target_candidate (rig n) k) ≡ nothing (elim o [ some i ↦ some i | none ↦ cond (is_held k) (some n) none ])
-    go [] none Empty e = refl
-    go [] none (Held p) e = refl
-    go [] (some i) k e = absurd (false≢true (sym e))
-    go (p ∷ l) none k e = absurd (false≢true e)
-    go (p ∷ l) (some i) k e = refl
+    go : (l : List Pose) (o : Option ℕ) (k : Cell) → is_empty l ≡ not (is_some o)
+        → is_empty (l ++ ours.target_candidate (rig n) k) ≡ not (is_some (elim o [ Some i ↦ Some i | None ↦ cond (is_held k) (Some n) None ]))
+    go [] None None e = refl
+    go [] None (Some p) e = refl
+    go [] (Some i) k e = absurd (false≢true (sym e))
+    go (p ∷ l) None k e = absurd (false≢true e)
+    go (p ∷ l) (Some i) k e = refl
 
-is_empty_view-nothing : (g : Grid) (v : ℕ) → is_empty_view g v ≡ nothing (lowest (holds g v) g.cameras)
-unfolding is_empty_view nothing
-is_empty_view-nothing g v = go (lowest (holds g v) g.cameras)
+is_empty_view-lowest : (g : Grid) (v : ℕ) → is_empty_view g v ≡ not (is_some (lowest (holds g v) g.cameras))
+unfolding is_empty_view
+is_empty_view-lowest g v = go (lowest (holds g v) g.cameras)
   where
-    go : (o : Option ℕ) → (elim o [ some c ↦ false | none ↦ true ]) ≡ nothing o
-    go none = refl
-    go (some c) = refl
+    go : (o : Option ℕ) → (elim o [ Some c ↦ false | None ↦ true ]) ≡ not (is_some o)
+    go None = refl
+    go (Some c) = refl
 
 -- ---- one grid
 
@@ -90,7 +84,7 @@ flatten_rig_final g all_Placed =
 
 is_empty_view_same : (g : Grid) (v : ℕ) → is_empty (ours.target_candidates g v) ≡ is_empty_view g v
 unfolding ours.target_candidates
-is_empty_view_same g v = is_empty_target_candidates (rig_se3_cam g) (cell_of g v) g.cameras ∙ sym (is_empty_view-nothing g v)
+is_empty_view_same g v = is_empty_target_candidates (rig_se3_cam g) (cell_of g v) g.cameras ∙ sym (is_empty_view-lowest g v)
 
 -- ---- two grids
 
@@ -98,16 +92,16 @@ module _ (camSe3Target : List (List (Option Pose))) (g : Grid) (same : SameGrid 
   pub unreached_same : unreached camSe3Target (rig_final g) ≡ filter (λ c. not (has_place g c)) (range g.cameras)
   unfolding unreached
   unreached_same =
-      ap (λ (n : ℕ). filter (λ c. not (is_some (get_or (rig_final g) c none))) (range n)) (sym same.same_cameras)
+      ap (λ (n : ℕ). filter (λ c. not (is_some (get_or (rig_final g) c None))) (range n)) (sym same.same_cameras)
       ∙ filter-range_agree _ _ g.cameras
-      (λ c l. ap (λ (o : Option Pose). not (is_some o)) (get_d_tabulate g.cameras (λ c. pose_in (spot_at (spots g) c) (rig_se3_cam g c)) none c l)
+      (λ c l. ap (λ (o : Option Pose). not (is_some o)) (get_d_tabulate g.cameras (λ c. pose_in (spot_at (spots g) c) (rig_se3_cam g c)) None c l)
       ∙ ap not (is_some_pose_in (spot_at (spots g) c) (rig_se3_cam g c)))
 
   target_candidates_same : (v : ℕ) → v < g.views → target_candidates (rig_poses g) (get_or camSe3Target v []) ≡ ours.target_candidates g v
   unfolding target_candidates ours.target_candidates
   target_candidates_same v h =
       ap (filter_map (λ (x : ℕ × Option Pose). target_candidate (rig_poses g) x.0 x.1))
-      (enumerate-tabulate none (get_or camSe3Target v []) ∙ ap (λ (n : ℕ). tabulate n (λ c. (c, pose_of camSe3Target v c))) (same.view_length v h))
+      (enumerate-tabulate None (get_or camSe3Target v []) ∙ ap (λ (n : ℕ). tabulate n (λ c. (c, pose_of camSe3Target v c))) (same.view_length v h))
       ∙ filter_map_tabulate (λ (x : ℕ × Option Pose). target_candidate (rig_poses g) x.0 x.1) (λ c. (c, pose_of camSe3Target v c)) g.cameras
       ∙ gather_agree g.cameras _ _
       (λ c l. cons_some-target_candidate (rig_poses g) c (rig_se3_cam g c) (get_d_tabulate g.cameras (rig_se3_cam g) identity_pose c l) (pose_of camSe3Target v c)

@@ -2,16 +2,14 @@
 -- Assumes nothing.
 use Rattle.std.proofs.Common.{◌≡◌, ℕ, ◌<◌, cond, ◌&&◌, List, [], length, get_or, sym, refl, ap, ◌∙◌, ap₂, arith}
 use mathlib.Core.Bool.{and_comm}
-use mathlib.Core.Option.{Option, none, some}
+use Rattle.std.specs.Prelude.{Option, None, Some}
 use Rattle.arithmetic.specs.declared.pose.Pose.{Pose}
 use Rattle.arithmetic.specs.Pose.{inverse_pose}
 use Rattle.arithmetic.proofs.Numbers.{mul_iso-mul_pose, inverse_iso-inverse_pose}
 use Rattle.chains.specs.Shared as ours
 use Rattle.lists.specs.Lists.{tabulate}
-use Rattle.placing.specs.Grid.{Grid, is_held, cell_of, holds, shared_views}
+use Rattle.placing.specs.Grid.{Grid, is_held, cell_of, holds, shared_views, Cell}
 use Rattle.placing.specs.Estimate.{link_candidate, link_candidates, averaged_link}
-use Rattle.placing.specs.declared.grid.Cell.{Cell}
-use Rattle.placing.specs.declared.grid.Cell.TheVariants.{Empty, Held}
 use Rattle.claims_direct.specs.RustStd.{ok, is_some, filter, cons_some, filter_map}
 use Rattle.claims_direct.specs.RustAverage.{average_isometries?}
 use Rattle.claims_direct.specs.Rust.{relative_pose, num_views, num_cameras, shared, candidates}
@@ -23,31 +21,26 @@ use Rattle.claims_direct.proofs.Gathered.{length-gather}
 use Rattle.claims_direct.proofs.Iterators.{length-filter-tabulate, filter_map_tabulate}
 use Rattle.claims_direct.proofs.RustAverage.{average_isometries?-ok}
 
--- The cell of an option.
-abbrev pub cell_for : Option Pose → Cell
-cell_for none = Empty
-cell_for (some p) = Held p
-
 -- ---- cells
 
-pub is_held_cell_for : (o : Option Pose) → is_held (cell_for o) ≡ is_some o
+is_held-is_some : (o : Option Pose) → is_held o ≡ is_some o
 unfolding is_held
-is_held_cell_for none = refl
-is_held_cell_for (some p) = refl
+is_held-is_some None = refl
+is_held-is_some (Some p) = refl
 
-cons_some-relative_pose : (a b : Option Pose) → cons_some (relative_pose a b) [] ≡ link_candidate (cell_for a) (cell_for b)
+cons_some-relative_pose : (a b : Option Pose) → cons_some (relative_pose a b) [] ≡ link_candidate a b
 unfolding relative_pose link_candidate
-cons_some-relative_pose none none = refl
-cons_some-relative_pose none (some q) = refl
-cons_some-relative_pose (some p) none = refl
-cons_some-relative_pose (some p) (some q) = rw (inverse_iso-inverse_pose q, mul_iso-mul_pose p (inverse_pose q)) refl
+cons_some-relative_pose None None = refl
+cons_some-relative_pose None (Some q) = refl
+cons_some-relative_pose (Some p) None = refl
+cons_some-relative_pose (Some p) (Some q) = rw (inverse_iso-inverse_pose q, mul_iso-mul_pose p (inverse_pose q)) refl
 
 length-link_candidate : (a b : Cell) → length (link_candidate a b) ≡ cond (is_held a && is_held b) 1 0
 unfolding link_candidate is_held
-length-link_candidate Empty Empty = refl
-length-link_candidate Empty (Held q) = refl
-length-link_candidate (Held p) Empty = refl
-length-link_candidate (Held p) (Held q) = refl
+length-link_candidate None None = refl
+length-link_candidate None (Some q) = refl
+length-link_candidate (Some p) None = refl
+length-link_candidate (Some p) (Some q) = refl
 
 -- ---- one grid
 
@@ -69,7 +62,7 @@ pub record SameGrid (camSe3Target : List (List (Option Pose))) (g : Grid) : Type
   pub same_views : g.views ≡ num_views camSe3Target
   pub same_cameras : g.cameras ≡ num_cameras camSe3Target
   pub view_length : (v : ℕ) → v < g.views → length (get_or camSe3Target v []) ≡ g.cameras
-  pub same_cell : (v c : ℕ) → v < g.views → c < g.cameras → cell_of g v c ≡ cell_for (pose_of camSe3Target v c)
+  pub same_cell : (v c : ℕ) → v < g.views → c < g.cameras → cell_of g v c ≡ pose_of camSe3Target v c
 
 module _ (camSe3Target : List (List (Option Pose))) (g : Grid) (same : SameGrid camSe3Target g) where
   pub views-tabulate : camSe3Target ≡ tabulate g.views (λ v. get_or camSe3Target v [])
@@ -79,21 +72,21 @@ module _ (camSe3Target : List (List (Option Pose))) (g : Grid) (same : SameGrid 
       ∙ ap (λ (n : ℕ). tabulate n (λ v. get_or camSe3Target v [])) (sym same.same_views)
 
   pub is_some_held : (v c : ℕ) → v < g.views → c < g.cameras → is_some (pose_of camSe3Target v c) ≡ holds g v c
-  is_some_held v c h k = sym (is_held_cell_for (pose_of camSe3Target v c)) ∙ ap is_held (sym (same.same_cell v c h k))
+  is_some_held v c h k = sym (is_held-is_some (pose_of camSe3Target v c)) ∙ ap is_held (sym (same.same_cell v c h k))
 
   pub shared_same : (a b : ℕ) → a < g.cameras → b < g.cameras → shared camSe3Target a b ≡ shared_views g a b
   unfolding shared ours.shared
   shared_same a b h k =
-      ap (λ (l : List (List (Option Pose))). length (filter (λ view. is_some (get_or view a none) && is_some (get_or view b none)) l)) views-tabulate
-      ∙ length-filter-tabulate (λ view. is_some (get_or view a none) && is_some (get_or view b none)) (λ v. get_or camSe3Target v []) g.views
+      ap (λ (l : List (List (Option Pose))). length (filter (λ view. is_some (get_or view a None) && is_some (get_or view b None)) l)) views-tabulate
+      ∙ length-filter-tabulate (λ view. is_some (get_or view a None) && is_some (get_or view b None)) (λ v. get_or camSe3Target v []) g.views
       ∙ count_agree (λ v. is_some (pose_of camSe3Target v a) && is_some (pose_of camSe3Target v b)) (λ v. holds g v a && holds g v b) g.views
       (λ v l. rw (is_some_held v a l h, is_some_held v b l k))
 
   pub candidates_same : (p c : ℕ) → p < g.cameras → c < g.cameras → candidates camSe3Target p c ≡ link_candidates g p c
   unfolding candidates link_candidates
   candidates_same p c h k =
-      ap (filter_map (λ view. relative_pose (get_or view p none) (get_or view c none))) views-tabulate
-      ∙ filter_map_tabulate (λ view. relative_pose (get_or view p none) (get_or view c none)) (λ v. get_or camSe3Target v []) g.views
+      ap (filter_map (λ view. relative_pose (get_or view p None) (get_or view c None))) views-tabulate
+      ∙ filter_map_tabulate (λ view. relative_pose (get_or view p None) (get_or view c None)) (λ v. get_or camSe3Target v []) g.views
       ∙ gather_agree g.views _ _
       (λ v l. cons_some-relative_pose (pose_of camSe3Target v p) (pose_of camSe3Target v c)
       ∙ ap₂ link_candidate (sym (same.same_cell v p l h)) (sym (same.same_cell v c l k)))

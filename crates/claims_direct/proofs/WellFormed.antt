@@ -1,7 +1,7 @@
 -- What passes the checks before 8, in the papers' own words (`passes_before_8`): each check finds nothing exactly where what it looks for is
 -- nowhere. Assumes nothing.
 use Rattle.std.proofs.Common.{◌≡◌, ℕ, zero, suc, ◌*◌, ◌<◌, ◌≤◌, Bool, false, cond, not, T, eqb, ltb, ◌↔◌, List, [], ◌∷◌, length, get_or, sym, refl, ap, ◌∙◌, subst, arith, le-ltb, eq-eqb, eqb-true}
-use mathlib.Core.Option.{Option, none}
+use Rattle.std.specs.Prelude.{Option, None, Some}
 use lib.Ieee.{Float}
 use borrow.Author.Tests.{not-false}
 use Rattle.arithmetic.specs.Pose.{pose_at, finite_pose}
@@ -12,7 +12,6 @@ use Rattle.placing.specs.Grid.{Grid}
 use Rattle.extrinsics.specs.Outcome.{is_not_finite, lowest_not_finite, not_finite}
 use Rattle.inputs.specs.Inputs.{size_refusal, cell_count, lowest_other_count, count_refusal, length_refusal, lowest_bad_mark, mark_refusal, input_refusal}
 use Rattle.extrinsics.specs.Direct.{marked_cell, direct_grid}
-use Rattle.placing.specs.declared.grid.Cell.TheVariants.{Empty, Held}
 use Rattle.claims_direct.specs.Demand3.{WellFormed}
 use Rattle.inputs.proofs.Answering.{refuse_at-none, refuse_at-nothing, first_of_none_all, AllNone, Sizes, size_refusal-sizes, Lengths}
 use Rattle.lists.proofs.Lowest.{lowest-none_fails, lowest-nothing}
@@ -23,15 +22,15 @@ use Rattle.claims_direct.proofs.DirectChecks.{length_passes, T-not_false}
 
 -- "Every grid that passes all the checks document 01 puts before 8": 1 to 6, and 7.
 pub record PassesBefore8 (counts marks : List ℕ) (floats : List Float) (reference first_room second_room : ℕ) : Type 0 where
-  pub passes_1_to_6 : input_refusal counts marks (length floats) reference first_room second_room ≡ none
-  pub passes_7 : not_finite (direct_grid counts marks floats reference) ≡ none
+  pub passes_1_to_6 : input_refusal counts marks (length floats) reference first_room second_room ≡ None
+  pub passes_7 : not_finite (direct_grid counts marks floats reference) ≡ None
 
 -- ---- a cell by its mark
 
 -- The cell that a mark of n and the pose p make.
 module _ (p : Pose) where
   abbrev pub not_finite_by : ℕ → Bool
-  not_finite_by n = is_not_finite (cond (eqb n 0) Empty (Held p))
+  not_finite_by n = is_not_finite (cond (eqb n 0) None (Some p))
 
   finite_by_mark : (n : ℕ) → n ≤ 1 → (n ≡ 1 → T (finite_pose p)) → not_finite_by n ≡ false
   unfolding is_not_finite
@@ -59,11 +58,11 @@ module _ (counts marks : List ℕ) (floats : List Float) (reference first_room s
   is_other v = not (eqb (get_or counts v 0) (get_or counts 0 0))
 
   abbrev pub is_bad : ℕ → Bool
-  is_bad i = is_not_finite (get_or grid.cells i Empty)
+  is_bad i = is_not_finite (get_or grid.cells i None)
 
   pub is_bad_mark : (i : ℕ) → i < cell_count counts → is_bad i ≡ not_finite_by (pose_at floats (7 * i)) (get_or marks i 0)
   unfolding direct_grid marked_cell
-  is_bad_mark i l = ap is_not_finite (get_d_tabulate (cell_count counts) (marked_cell marks floats) Empty i l)
+  is_bad_mark i l = ap is_not_finite (get_d_tabulate (cell_count counts) (marked_cell marks floats) None i l)
 
   -- ---- from the checks
 
@@ -74,7 +73,7 @@ module _ (counts marks : List ℕ) (floats : List Float) (reference first_room s
     abbrev lengths : Lengths (length counts) (get_or counts 0 0) (length marks) (length floats) first_room second_room
     lengths = input_lengths counts marks (length floats) reference first_room second_room passes.passes_1_to_6
 
-    no_other_count : count_refusal counts ≡ none
+    no_other_count : count_refusal counts ≡ None
     unfolding input_refusal
     no_other_count =
         let all : AllNone input_checks = first_of_none_all input_checks passes.passes_1_to_6 in all.1.0
@@ -111,7 +110,7 @@ module _ (counts marks : List ℕ) (floats : List Float) (reference first_room s
   -- ---- to the checks
 
   module _ (formed : WellFormed counts marks floats reference first_room second_room) where
-    sizes_pass : size_refusal (length counts) (get_or counts 0 0) reference ≡ none
+    sizes_pass : size_refusal (length counts) (get_or counts 0 0) reference ≡ None
     sizes_pass =
         size_refusal-sizes (length counts) (get_or counts 0 0) reference
         (record {
@@ -122,13 +121,13 @@ module _ (counts marks : List ℕ) (floats : List Float) (reference first_room s
           reference_inside = formed.reference_inside;
         })
 
-    counts_pass : count_refusal counts ≡ none
+    counts_pass : count_refusal counts ≡ None
     unfolding count_refusal lowest_other_count
     counts_pass =
         refuse_at-none (lowest_other_count counts) CountDiffers
         (lowest-nothing is_other (length counts) (λ v l. ap not (eq-eqb (get_or counts v 0) (get_or counts 0 0) (formed.count_each v l))))
 
-    lengths_pass : length_refusal (length counts) (get_or counts 0 0) (length marks) (length floats) first_room second_room ≡ none
+    lengths_pass : length_refusal (length counts) (get_or counts 0 0) (length marks) (length floats) first_room second_room ≡ None
     lengths_pass =
         length_passes (length counts) (get_or counts 0 0) (length marks) (length floats) first_room second_room formed.mark_each formed.seven_each
         formed.first_fits formed.second_fits
@@ -136,17 +135,17 @@ module _ (counts marks : List ℕ) (floats : List Float) (reference first_room s
     small : (i : ℕ) → i < cell_count counts → get_or marks i 0 ≤ 1
     small i l = formed.mark_small i (omega (arith, formed.mark_each))
 
-    marks_pass : mark_refusal (cell_count counts) marks ≡ none
+    marks_pass : mark_refusal (cell_count counts) marks ≡ None
     unfolding mark_refusal lowest_bad_mark
     marks_pass =
         refuse_at-none (lowest_bad_mark (cell_count counts) marks) BadMark
         (lowest-nothing (λ i. ltb 1 (get_or marks i 0)) (cell_count counts) (λ i l. le-ltb 1 (get_or marks i 0) (small i l)))
 
-    inputs_pass : input_refusal counts marks (length floats) reference first_room second_room ≡ none
+    inputs_pass : input_refusal counts marks (length floats) reference first_room second_room ≡ None
     unfolding input_refusal
     inputs_pass = all_none_first_of input_checks (sizes_pass, (counts_pass, (lengths_pass, (marks_pass, tt))))
 
-    poses_pass : not_finite grid ≡ none
+    poses_pass : not_finite grid ≡ None
     unfolding not_finite lowest_not_finite direct_grid
     poses_pass =
         refuse_at-none (lowest_not_finite grid) NotFinite

@@ -1,14 +1,13 @@
 -- Demand 1 of the papers for one direct call, in document 01's own words: which number refuses it, with which detail, and in which order; when it is
 -- accepted; that a refusal writes nothing, and a solved call nothing beyond its answers. Nothing here computes. Rests on the checks of `Deciding` and
 -- on the words of `Demand3`.
-use Rattle.std.specs.Prelude.{◌≡◌, ℕ, ◌+◌, ◌*◌, ◌<◌, ◌≤◌, false, ◌≢◌, ◌⊎◌, ◌↔◌, List, [], ◌∷◌, ◌++◌, length, slice_index, slice_index_or, Float}
+use Rattle.std.specs.Prelude.{◌≡◌, ℕ, ◌+◌, ◌*◌, ◌<◌, ◌≤◌, false, ◌≢◌, ◌⊎◌, ◌↔◌, List, [], ◌∷◌, ◌++◌, length, slice_index, slice_index_or, Float, Ok}
 use Rattle.std.specs.Float.{nan}
 use Rattle.std.specs.Float.Ieee.Scale.{finite}
 use Rattle.limits.specs.Limits.{max_views, max_cameras}
 use Rattle.claims_direct.specs.Deciding.{Check, naming, plain, Decides, LowestBelow}
 use Rattle.claims_direct.specs.Demand3.{RefusedBy, WellFormed, Chained, EveryCameraChained, EveryViewHolds, HoldsAPose, NamesUnchained}
-use Rattle.extrinsics.specs.declared.Outcome.{Outcome}
-use Rattle.extrinsics.specs.declared.Outcome.TheVariants.{Solved}
+use Rattle.extrinsics.specs.Outcome.{Outcome}
 
 -- "views for 1 then 2, cameras of view 0 for 1 then 2, then 3": 1 is "no views, or no cameras in view 0", 2 "more than 64 views, or more than 16
 -- cameras in view 0", 3 "the reference is not below the camera count".
@@ -68,10 +67,10 @@ pub record Demand1 (counts marks : List ℕ) (floats : List Float) (reference : 
   -- "Refused, by document 01's numbers": by number n and detail d exactly when the words of n say so, and no words before them say anything.
   pub refused_exactly : (n d : ℕ) → RefusedBy r n d ↔ Decides (direct_checks counts marks floats reference (length first) (length second)) n d
   -- "Every other call is accepted": solved exactly when it is well formed, every camera has a chain and every view holds a pose.
-  pub solved_exactly : (r ≡ Solved)
+  pub solved_exactly : (r ≡ Ok tt)
       ↔ (WellFormed counts marks floats reference (length first) (length second)
       × (EveryCameraChained marks (slice_index counts 0) (length counts) reference × EveryViewHolds marks (slice_index counts 0) (length counts)))
   -- It is refused or it is solved: there is no third answer, and "A refusal changes no held pose and no lent memory."
-  pub otherwise_unchanged : (r ≢ Solved) → ((n : ℕ) × (d : ℕ) × RefusedBy r n d) × (first' ≡ first) × (second' ≡ second)
+  pub otherwise_unchanged : r ≢ Ok tt → ((n : ℕ) × (d : ℕ) × RefusedBy r n d) × (first' ≡ first) × (second' ≡ second)
   -- A solved call writes the first 7 × (cameras + views) floats and the first 2 × cameras bytes, and no more.
-  pub beyond_unchanged : r ≡ Solved → BeyondUnchanged (length counts) (slice_index counts 0) first second first' second'
+  pub beyond_unchanged : r ≡ Ok tt → BeyondUnchanged (length counts) (slice_index counts 0) first second first' second'

@@ -1,7 +1,7 @@
 -- Demand 3 of the papers, sentence by sentence, for one direct call: over what it takes, its answer, and both lent answers after it.
 -- What is held, shared, linked and chained goes by the marks; parents, links and poses are read from the answers. Nothing here knows
 -- how cameras are placed. Rests on the chains of `Chains` and the arithmetic of poses.
-use Rattle.std.specs.Prelude.{◌≡◌, ℕ, ◌+◌, ◌*◌, ◌<◌, ◌≤◌, Bool, true, cond, ◌&&◌, T, ◌≢◌, ◌⊎◌, ◌↔◌, List, [], ◌∷◌, length, ◌==◌, slice_index, slice_index_or, Float}
+use Rattle.std.specs.Prelude.{◌≡◌, ℕ, ◌+◌, ◌*◌, ◌<◌, ◌≤◌, Bool, true, cond, ◌&&◌, T, ◌≢◌, ◌⊎◌, ◌↔◌, List, [], ◌∷◌, length, ◌==◌, slice_index, slice_index_or, Float, Err, Ok}
 use Rattle.arithmetic.specs.Pose.{pose_at, finite_pose, identity_pose, mul_pose, inverse_pose}
 use Rattle.mean.specs.Average.{average_isometries}
 use Rattle.arithmetic.specs.declared.pose.Pose.{Pose}
@@ -15,8 +15,7 @@ use Rattle.chains.specs.Layered.{Layered}
 use Rattle.lists.specs.Masks.{in_mask}
 use Rattle.lists.specs.Lists.{gather}
 use Rattle.lists.specs.Finding.{power_sum}
-use Rattle.extrinsics.specs.declared.Outcome.{Outcome}
-use Rattle.extrinsics.specs.declared.Outcome.TheVariants.{Refused, Solved}
+use Rattle.extrinsics.specs.Outcome.{Outcome}
 
 -- "Every grid that passes all the checks document 01 puts before 8", in the papers' own words: 1 to 7 find nothing exactly here
 -- (`passes_before_8` of `WellFormed`). The views of the call are its counts, and its cameras those of view 0.
@@ -97,7 +96,7 @@ module _ (marks : List ℕ) (floats : List Float) (cameras : ℕ) where
 
 -- Refused by a number of the table, with a detail.
 abbrev pub RefusedBy : Outcome → ℕ → ℕ → Type 0
-RefusedBy r number detail = (q : Refusal) × (r ≡ Refused q) × (number_of q ≡ number) × (detail_of q ≡ detail)
+RefusedBy r number detail = (q : Refusal) × (r ≡ Err q) × (number_of q ≡ number) × (detail_of q ≡ detail)
 
 module _ (marks : List ℕ) (cameras views : ℕ) where
   -- "Two different cameras share each view that holds poses of both."
@@ -157,14 +156,14 @@ module _ (marks : List ℕ) (cameras views : ℕ) where
       pub record Demanded (r : Outcome) : Type 0 where
         -- "is solved exactly when every camera can be tied to the reference by a chain of cameras, neighbours sharing a view, and every
         -- view holds a pose."
-        pub solved_exactly : (r ≡ Solved) ↔ (EveryCameraChained × EveryViewHolds)
+        pub solved_exactly : (r ≡ Ok tt) ↔ (EveryCameraChained × EveryViewHolds)
         -- "Otherwise the refusal is 8, naming precisely the cameras without a chain, or, if there are none, 9, naming the lowest empty view."
-        pub otherwise : (r ≢ Solved) → RefusedUnchained r ⊎ RefusedEmpty r
+        pub otherwise : r ≢ Ok tt → RefusedUnchained r ⊎ RefusedEmpty r
         -- The same, from the grid to the refusal: 8 wherever a camera has no chain, and 9 wherever all have one and a view is empty.
         pub unchained_8 : (c : ℕ) → c < cameras → (Chained c → ⊥) → RefusedUnchained r
         pub empty_9 : EveryCameraChained → (v : ℕ) → v < views → (HoldsAPose marks cameras v → ⊥) → RefusedEmpty r
         -- "When solved, .."
-        pub solved_rig : r ≡ Solved → SolvedRig
+        pub solved_rig : r ≡ Ok tt → SolvedRig
 
 -- What the demand asks of a direct call with these inputs that answers r and leaves these two answers. The views of the call are its
 -- counts, and its cameras those of view 0.

@@ -1,7 +1,6 @@
 -- Demand 2, in the terms of both sides: how a grid that the Rust function takes stands in the inputs of the direct call, which refusal
 -- stands for which of the Rust's errors, and when an answer of the direct call is the Rust's. Rests on the Rust function of `Rust`.
-use Rattle.std.specs.Prelude.{◌≡◌, ℕ, ◌+◌, ◌*◌, ◌^◌, ◌<◌, ◌≤◌, T, List, [], ◌∷◌, ◌++◌, map, length, drop, slice_index, slice_index_or, Float}
-use Rattle.std.proofs.Math.Option.{Option, none, some}
+use Rattle.std.specs.Prelude.{◌≡◌, ℕ, ◌+◌, ◌*◌, ◌^◌, ◌<◌, ◌≤◌, T, List, [], ◌∷◌, ◌++◌, map, length, drop, slice_index, slice_index_or, Float, Option, None, Some, Err, Ok}
 use Rattle.arithmetic.specs.Pose.{finite_pose, pose_at}
 use Rattle.arithmetic.specs.declared.pose.Pose.{Pose}
 use Rattle.refusal.specs.declared.Refusal.{Refusal}
@@ -9,19 +8,18 @@ use Rattle.refusal.specs.declared.Refusal.TheVariants.{InsufficientData, Invalid
 use Rattle.limits.specs.Limits.{max_views, max_cameras}
 use Rattle.claims_direct.specs.RustStd.{Result, ok, err, neither}
 use Rattle.claims_direct.specs.Rust.{Error, insufficient_data, invalid_ref_cam_idx, camera_count, share_no_view, no_valid_camera_poses, ExtrinsicPoses, num_views, num_cameras}
-use Rattle.extrinsics.specs.declared.Outcome.{Outcome}
-use Rattle.extrinsics.specs.declared.Outcome.TheVariants.{Refused, Solved}
+use Rattle.extrinsics.specs.Outcome.{Outcome}
 
 -- ---- inputs
 
 -- "0 empty, 1 pose"
 abbrev pub mark_for : Option Pose → ℕ
-mark_for none = 0
-mark_for (some p) = 1
+mark_for None = 0
+mark_for (Some p) = 1
 
 -- `cam_se3_target[v][c]`, `None` outside.
 abbrev pub pose_of : List (List (Option Pose)) → ℕ → ℕ → Option Pose
-pose_of camSe3Target v c = slice_index_or (slice_index_or camSe3Target v []) c none
+pose_of camSe3Target v c = slice_index_or (slice_index_or camSe3Target v []) c None
 
 module _ (camSe3Target : List (List (Option Pose))) where
   -- Every view has as many cameras as view 0.
@@ -35,7 +33,7 @@ module _ (camSe3Target : List (List (Option Pose))) where
     pub cell_mark : (v c : ℕ) → v < num_views camSe3Target → c < num_cameras camSe3Target
         → slice_index marks (v * num_cameras camSe3Target + c) ≡ mark_for (pose_of camSe3Target v c)
     pub cell_pose : (v c : ℕ) → v < num_views camSe3Target → c < num_cameras camSe3Target
-        → (p : Pose) → pose_of camSe3Target v c ≡ some p → pose_at floats (7 * (v * num_cameras camSe3Target + c)) ≡ p
+        → (p : Pose) → pose_of camSe3Target v c ≡ Some p → pose_at floats (7 * (v * num_cameras camSe3Target + c)) ≡ p
 
   -- The direct call's counts, marks and floats hold the grid. Where the counts differ there are no cells to speak of.
   pub record Encodes (counts marks : List ℕ) (floats : List Float) : Type 0 where
@@ -46,7 +44,7 @@ module _ (camSe3Target : List (List (Option Pose))) where
   pub record WithinLimits : Type 0 where
     pub views_fit : num_views camSe3Target ≤ max_views
     pub cameras_fit : num_cameras camSe3Target ≤ max_cameras
-    pub finite_poses : (v c : ℕ) (p : Pose) → pose_of camSe3Target v c ≡ some p → T (finite_pose p)
+    pub finite_poses : (v c : ℕ) (p : Pose) → pose_of camSe3Target v c ≡ Some p → T (finite_pose p)
 
   -- Lent answers of so many floats and bytes are long enough.
   pub record RoomEnough (first_room second_room : ℕ) : Type 0 where
@@ -89,8 +87,8 @@ numbers_of poses = flat_all poses.rig_se3_cam ++ flat_all poses.rig_se3_target
 -- refused by its number and detail, and an answer is written number by number. It is never neither: no `expect` fails and the loop over
 -- layers ends. Of indexing nothing is said: it is modelled as total.
 abbrev pub Agrees : Result Error ExtrinsicPoses → Option Refusal → List Float → Type 0
-Agrees (ok poses) refusal numbers = (refusal ≡ none) × (numbers ≡ numbers_of poses)
-Agrees (err e) refusal numbers = refusal ≡ some (refusal_of e)
+Agrees (ok poses) refusal numbers = (refusal ≡ None) × (numbers ≡ numbers_of poses)
+Agrees (err e) refusal numbers = refusal ≡ Some (refusal_of e)
 Agrees neither refusal numbers = ⊥
 
 -- A direct call that was lent `first` and `second`, answers r and leaves `first'` and `second'`, against what the Rust function comes to. An
@@ -98,6 +96,6 @@ Agrees neither refusal numbers = ⊥
 -- chains, so the second answer is demand 3's. An error is refused by its number and detail, and both answers are unchanged.
 abbrev pub CallAgrees : Result Error ExtrinsicPoses → List Float → List ℕ → Outcome → List Float → List ℕ → Type 0
 CallAgrees (ok poses) first second r first' second' =
-    (r ≡ Solved) × (first' ≡ numbers_of poses ++ drop (length (numbers_of poses)) first)
-CallAgrees (err e) first second r first' second' = (r ≡ Refused (refusal_of e)) × (first' ≡ first) × (second' ≡ second)
+    (r ≡ Ok tt) × (first' ≡ numbers_of poses ++ drop (length (numbers_of poses)) first)
+CallAgrees (err e) first second r first' second' = (r ≡ Err (refusal_of e)) × (first' ≡ first) × (second' ≡ second)
 CallAgrees neither first second r first' second' = ⊥

@@ -1,8 +1,7 @@
 -- The Rust function `estimate_extrinsics_from_cam_target_poses` of extrinsics.rs, step by step in its own order and terms, to be read with the
 -- Rust in the other hand. It shares the arithmetic of `arithmetic` with the definitions of the direct call, and nothing else: the average that
 -- it takes is the Rust's own, of `RustAverage`.
-use Rattle.std.specs.Prelude.{ℕ, zero, suc, Bool, true, false, not, ◌&&◌, ◌||◌, ltb, List, [], ◌∷◌, ◌++◌, map, length, replicate, ◌==◌, nat_le, nat_lt, slice_index_or, slice_set}
-use Rattle.std.proofs.Math.Option.{Option, none, some}
+use Rattle.std.specs.Prelude.{ℕ, zero, suc, Bool, true, false, not, ◌&&◌, ◌||◌, ltb, List, [], ◌∷◌, ◌++◌, map, length, replicate, ◌==◌, nat_le, nat_lt, slice_index_or, slice_set, Option, None, Some}
 use Rattle.arithmetic.specs.Pose.{identity_pose}
 use Rattle.arithmetic.specs.Numbers.{mul_iso, inverse_iso}
 use Rattle.arithmetic.specs.declared.pose.Pose.{Pose}
@@ -21,9 +20,9 @@ key_below (p, n) (q, m) = nat_lt m n || (n == m && nat_lt p q)
 
 -- "T_Cparent_Ccam = T_Cparent_T * (T_Ccam_T)^(-1)" where the view has both, else `None`.
 unfoldable pub relative_pose : Option Pose → Option Pose → Option Pose
-relative_pose none ctCam = none
-relative_pose (some ctParent) none = none
-relative_pose (some ctParent) (some ctCam) = some (mul_iso ctParent (inverse_iso ctCam))
+relative_pose None ctCam = None
+relative_pose (Some ctParent) None = None
+relative_pose (Some ctParent) (Some ctCam) = Some (mul_iso ctParent (inverse_iso ctCam))
 
 module _ (camSe3Target : List (List (Option Pose))) where
   unfoldable pub num_views : ℕ
@@ -54,11 +53,11 @@ module _ (camSe3Target : List (List (Option Pose))) where
 
   -- `let Some((parent, _)) = .. else { continue; };` and what follows it in the body. The state is `rig_se3_cam` and `next`.
   unfoldable pub place : Option (ℕ × ℕ) → ℕ → List (Option Pose) × List ℕ → Result Error (List (Option Pose) × List ℕ)
-  place none camIdx (rig_se3_cam, next) = ok (rig_se3_cam, next)
-  place (some (parent, n)) camIdx (rig_se3_cam, next) = do
+  place None camIdx (rig_se3_cam, next) = ok (rig_se3_cam, next)
+  place (Some (parent, n)) camIdx (rig_se3_cam, next) = do
     parentSe3Cam ← average_isometries? (candidates parent camIdx)
     rigSe3Parent ← expect (rig_se3_cam ‼ parent)
-    ok (slice_set rig_se3_cam camIdx (some (mul_iso rigSe3Parent parentSe3Cam)), next ++ (camIdx ∷ []))
+    ok (slice_set rig_se3_cam camIdx (Some (mul_iso rigSe3Parent parentSe3Cam)), next ++ (camIdx ∷ []))
 
   -- The body of `for cam_idx in 0..num_cameras`, with its `continue` for a camera that has a pose.
   unfoldable pub visit : List ℕ → ℕ → List (Option Pose) × List ℕ → Result Error (List (Option Pose) × List ℕ)
@@ -81,8 +80,8 @@ module _ (camSe3Target : List (List (Option Pose))) where
 
 -- `rig_se3_cam[cam_idx] * ct` where the camera has a pose in the view.
 unfoldable pub target_candidate : List Pose → ℕ → Option Pose → Option Pose
-target_candidate rig_se3_cam camIdx none = none
-target_candidate rig_se3_cam camIdx (some ct) = some (mul_iso (slice_index_or rig_se3_cam camIdx identity_pose) ct)
+target_candidate rig_se3_cam camIdx None = None
+target_candidate rig_se3_cam camIdx (Some ct) = Some (mul_iso (slice_index_or rig_se3_cam camIdx identity_pose) ct)
 
 -- `for (cam_idx, opt_ct) in view.iter().enumerate()`, which pushes them.
 unfoldable pub target_candidates : List Pose → List (Option Pose) → List Pose
@@ -103,7 +102,7 @@ estimate_extrinsics_from_cam_target_poses camSe3Target refCamIdx = do
   return_err_if (cameras == 0) insufficient_data
   return_err_if (nat_le cameras refCamIdx) invalid_ref_cam_idx
   check_counts camSe3Target
-  rig_se3_cam ← while_layer camSe3Target (suc cameras) (slice_set (replicate cameras none) refCamIdx (some identity_pose)) (refCamIdx ∷ [])
+  rig_se3_cam ← while_layer camSe3Target (suc cameras) (slice_set (replicate cameras None) refCamIdx (Some identity_pose)) (refCamIdx ∷ [])
   return_err_if (not (is_empty (unreached camSe3Target rig_se3_cam))) (share_no_view (unreached camSe3Target rig_se3_cam))
   rig_se3_target ← for_each (enumerate camSe3Target) (push_target (flatten rig_se3_cam)) []
   ok (record { rig_se3_cam = flatten rig_se3_cam; rig_se3_target = rig_se3_target })

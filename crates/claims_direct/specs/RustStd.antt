@@ -1,7 +1,6 @@
 -- What `extrinsics.rs` takes from Rust itself, in Rust's own terms: results and `?`, `for` over a range or an enumerated list, and the
 -- iterator methods that it calls. Assumes nothing.
-use Rattle.std.specs.Prelude.{ℕ, zero, suc, Bool, true, false, cond, List, [], ◌∷◌, ◌++◌, slice_index_or}
-use Rattle.std.proofs.Math.Option.{Option, none, some}
+use Rattle.std.specs.Prelude.{ℕ, zero, suc, Bool, true, false, cond, List, [], ◌∷◌, ◌++◌, slice_index_or, Option, None, Some}
 use mathlib.Core.List.{foldl}
 
 -- ---- results
@@ -29,19 +28,19 @@ return_err_if test e = cond test (err e) (ok tt)
 
 -- `expect` panics at `None`.
 abbrev pub expect : {E A : Type 0} → Option A → Result E A
-expect none = neither
-expect (some a) = ok a
+expect None = neither
+expect (Some a) = ok a
 
 -- ---- options and lists
 
 abbrev pub is_some : {A : Type 0} → Option A → Bool
-is_some none = false
-is_some (some a) = true
+is_some None = false
+is_some (Some a) = true
 
 -- `list[i]`, where i is below the length; there is no other use of it.
 infixl 90 ◌‼◌
 abbrev pub ◌‼◌ : {A : Type 0} → List (Option A) → ℕ → Option A
-list ‼ i = slice_index_or list i none
+list ‼ i = slice_index_or list i None
 
 -- `list[i]` of any list, which panics where i is not below the length.
 unfoldable pub index : {E A : Type 0} → List A → ℕ → Result E A
@@ -76,8 +75,8 @@ filter test [] = []
 filter test (a ∷ rest) = cond (test a) (a ∷ filter test rest) (filter test rest)
 
 abbrev pub cons_some : {A : Type 0} → Option A → List A → List A
-cons_some none rest = rest
-cons_some (some a) rest = a ∷ rest
+cons_some None rest = rest
+cons_some (Some a) rest = a ∷ rest
 
 unfoldable pub filter_map : {A B : Type 0} → (A → Option B) → List A → List B
 filter_map f [] = []
@@ -89,8 +88,8 @@ flatten list = filter_map (λ o. o) list
 
 -- `min_by_key`, where `less a b` says that the key of a is below that of b: of equal keys the first stays.
 unfoldable pub lesser : {A : Type 0} → (A → A → Bool) → Option A → A → Option A
-lesser less none b = some b
-lesser less (some a) b = cond (less b a) (some b) (some a)
+lesser less None b = Some b
+lesser less (Some a) b = cond (less b a) (Some b) (Some a)
 
 unfoldable pub min_by : {A : Type 0} → (A → A → Bool) → List A → Option A
-min_by less list = foldl (lesser less) none list
+min_by less list = foldl (lesser less) None list

@@ -5,7 +5,7 @@ use native.Mathlib.Omega.{arith}
 use mathlib.Core.Path.{◌≡◌, refl, sym, ap, ◌∙◌, subst}
 use mathlib.Core.Logic.{◌↔◌}
 use mathlib.Core.Bool.{Bool, true, false, not}
-use mathlib.Core.Option.{Option, none, some}
+use Rattle.std.specs.Prelude.{Option, None, Some}
 use mathlib.Core.List.{List, [], ◌∷◌, ◌++◌}
 use lib.ListN.{length, get_or, drop}
 use lib.Dec.{T, eqb, ltb}
@@ -21,8 +21,7 @@ use Rattle.lists.specs.Finding.{lowest}
 use Rattle.inputs.proofs.Answering.{refuse_if-none, first_of_none_all}
 use Rattle.lists.proofs.Lowest.{lowest-none_fails, lowest-nothing}
 use Rattle.averaging.specs.Entry.{max_poses, is_not_finite, lowest_not_finite, average_refusal, averaged_by, averaged_of}
-use Rattle.averaging.specs.declared.Averaged.{Averaged}
-use Rattle.averaging.specs.declared.Averaged.TheVariants.{Refused, Mean}
+use Rattle.averaging.specs.Entry.{Averaged}
 use Rattle.averaging.proofs.Outcomes.{averaged_of_mean}
 use Rattle.claims_direct.specs.Deciding.{Decides}
 use Rattle.claims_direct.specs.Demand1.{NotAllFinite}
@@ -36,6 +35,7 @@ use Rattle.placer.specs.Reading.{number_in, detail_in}
 use Rattle.placer.proofs.Reading.{code_of_above}
 use Rattle.placer.proofs.ReadBack.{average_reads_0, average_reads_both}
 use Rattle.claims_exports.specs.Averages.{average_checks, Averageable, AverageDemand1, RepliesDemand1}
+use Rattle.std.specs.Prelude.{Err, Ok}
 
 -- ---- a pose's seven numbers
 
@@ -52,20 +52,20 @@ true_of_T false t = absurd t
 
 -- ---- an outcome by what is refused
 
-averaged_by-refused : (o : Option Refusal) (p : Pose) (q : Refusal) → averaged_by o p ≡ Refused q → o ≡ some q
+averaged_by-refused : (o : Option Refusal) (p : Pose) (q : Refusal) → averaged_by o p ≡ Err q → o ≡ Some q
 unfolding averaged_by
-averaged_by-refused none p q e = cc
-averaged_by-refused (some r) p q e = cc
+averaged_by-refused None p q e = cc
+averaged_by-refused (Some r) p q e = cc
 
-averaged_by_mean : (o : Option Refusal) (p mean : Pose) → averaged_by o p ≡ Mean mean → o ≡ none
+averaged_by_mean : (o : Option Refusal) (p mean : Pose) → averaged_by o p ≡ Ok mean → o ≡ None
 unfolding averaged_by
-averaged_by_mean none p mean e = refl
-averaged_by_mean (some r) p mean e = cc
+averaged_by_mean None p mean e = refl
+averaged_by_mean (Some r) p mean e = cc
 
-refuse_at-nothing : (o : Option ℕ) → refuse_at o NotFinite ≡ none → o ≡ none
+refuse_at-nothing : (o : Option ℕ) → refuse_at o NotFinite ≡ None → o ≡ None
 unfolding refuse_at
-refuse_at-nothing none e = refl
-refuse_at-nothing (some n) e = cc
+refuse_at-nothing None e = refl
+refuse_at-nothing (Some n) e = cc
 
 module _ (poses : List Pose) where
   abbrev found : List (Option Refusal)
@@ -103,7 +103,7 @@ module _ (poses : List Pose) where
 
   -- ---- accepted
 
-  accepted_averageable : average_refusal poses ≡ none → Averageable poses
+  accepted_averageable : average_refusal poses ≡ None → Averageable poses
   accepted_averageable e =
       let h = first_of_none_all found (sym refusal_found ∙ e) in
       let some-pose = eqb-false (length poses) 0 (refuse_if-none _ _ h.0) in
@@ -116,21 +116,21 @@ module _ (poses : List Pose) where
             (lowest-none_fails (is_not_finite poses) (length poses) i (refuse_at-nothing (lowest (is_not_finite poses) (length poses)) h.1.1.0) l))) tt;
       }
 
-  averageable_mean : Averageable poses → averaged_of poses ≡ Mean (average_isometries poses)
+  averageable_mean : Averageable poses → averaged_of poses ≡ Ok (average_isometries poses)
   unfolding lowest_not_finite
   averageable_mean a =
       averaged_of_mean poses (λ e. omega (arith, a.not_empty)) a.not_too_many
       (lowest-nothing (is_not_finite poses) (length poses) (λ i l. ap not (true_of_T (finite_pose (get_or poses i nowhere)) (a.finite_poses i l))))
 
-  refused-outcome : (q : Refusal) → average_refusal poses ≡ some q → averaged_of poses ≡ Refused q
+  refused-outcome : (q : Refusal) → average_refusal poses ≡ Some q → averaged_of poses ≡ Err q
   unfolding averaged_of averaged_by
   refused-outcome q e = ap (λ (o : Option Refusal). averaged_by o (average_isometries poses)) e
 
-  outcome-refused : (q : Refusal) → averaged_of poses ≡ Refused q → average_refusal poses ≡ some q
+  outcome-refused : (q : Refusal) → averaged_of poses ≡ Err q → average_refusal poses ≡ Some q
   unfolding averaged_of
   outcome-refused q e = averaged_by-refused (average_refusal poses) (average_isometries poses) q e
 
-  mean_accepted : (p : Pose) → averaged_of poses ≡ Mean p → average_refusal poses ≡ none
+  mean_accepted : (p : Pose) → averaged_of poses ≡ Ok p → average_refusal poses ≡ None
   unfolding averaged_of
   mean_accepted p e = averaged_by_mean (average_refusal poses) (average_isometries poses) p e
 
@@ -152,23 +152,23 @@ module _ (poses : List Pose) where
   -- ---- the export
 
   module _ (mean : List Float) (r : ℕ) (mean' : List Float) (call : AveragedInto poses mean r mean') where
-    reply_of_refused : (q : Refusal) → average_refusal poses ≡ some q → r ≡ code_of q
+    reply_of_refused : (q : Refusal) → average_refusal poses ≡ Some q → r ≡ code_of q
     unfolding code_of_averaged
     reply_of_refused q e = call.reply ∙ ap code_of_averaged (refused-outcome q e)
 
-    refused-above : (q : Refusal) → average_refusal poses ≡ some q → 2 ^ 32 ≤ r
+    refused-above : (q : Refusal) → average_refusal poses ≡ Some q → 2 ^ 32 ≤ r
     refused-above q e = omega (arith, reply_of_refused q e, code_of_above q)
 
-    refused_same : (q : Refusal) → average_refusal poses ≡ some q → mean' ≡ mean
+    refused_same : (q : Refusal) → average_refusal poses ≡ Some q → mean' ≡ mean
     unfolding mean_after
     refused_same q e = call.answer ∙ ap (λ (o : Averaged). mean_after o mean) (refused-outcome q e)
 
-    reply_0 : (r ≡ 0) ↔ (average_refusal poses ≡ none)
+    reply_0 : (r ≡ 0) ↔ (average_refusal poses ≡ None)
     reply_0 = average_reads_0 poses mean r mean' call
 
-    above-refused : (o : Option Refusal) → average_refusal poses ≡ o → (r ≡ 0 → ⊥) → (q : Refusal) × (average_refusal poses ≡ some q)
-    above-refused none e n = absurd (n (reply_0.1 e))
-    above-refused (some q) e n = (q, e)
+    above-refused : (o : Option Refusal) → average_refusal poses ≡ o → (r ≡ 0 → ⊥) → (q : Refusal) × (average_refusal poses ≡ Some q)
+    above-refused None e n = absurd (n (reply_0.1 e))
+    above-refused (Some q) e n = (q, e)
 
     reply-refused_exactly : (n d : ℕ) → ((2 ^ 32 ≤ r) × (number_in r ≡ n) × (detail_in r ≡ d)) ↔ Decides (average_checks poses) n d
     reply-refused_exactly n d = (

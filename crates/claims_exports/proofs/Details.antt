@@ -4,7 +4,7 @@ use Prim.Native.Nat.{ℕ, ◌+◌, ◌≤◌}
 use native.Mathlib.Omega.{arith}
 use mathlib.Core.Path.{◌≡◌, refl, sym, subst}
 use mathlib.Core.Bool.{Bool, true, false, not, cond}
-use mathlib.Core.Option.{Option, none, some}
+use Rattle.std.specs.Prelude.{Option, None, Some}
 use mathlib.Core.List.{List, [], ◌∷◌}
 use lib.ListN.{length, get_or}
 use lib.Dec.{T, eqb, leb, ltb}
@@ -58,14 +58,14 @@ small_answer t allowed command h =
   where
     go : (o : Option Refusal) → command_refusal (held_of t.session) t.buffer command ≡ o → Small (command_refusal (held_of t.session) t.buffer command)
         → SmallReply (answer_to t command).reply
-    go none e k = rw (answer_to-accepted t command e) (small_reply_to command)
-    go (some r) e k = rw (answer_to-refused t command r e) (subst Small e k)
+    go None e k = rw (answer_to-accepted t command e) (small_reply_to command)
+    go (Some r) e k = rw (answer_to-refused t command r e) (subst Small e k)
 
 -- ---- one call
 
 module _ (t : State) (stream : List ℕ) (at : ℕ) where
   -- What the checks before all else have shown.
-  pub call_checked : call_refusal t stream at ≡ none → (length stream ≤ max_stream) × Usable t × (at ≤ length stream)
+  pub call_checked : call_refusal t stream at ≡ None → (length stream ≤ max_stream) × Usable t × (at ≤ length stream)
   unfolding call_refusal
   call_checked e =
       let (long, (wrong, (past, _))) =
@@ -105,8 +105,8 @@ module _ (t : State) (stream : List ℕ) (at : ℕ) (bytes : Bytes stream) where
     small_read = go (width_of (get_or stream at 0)) refl
       where
         go : (o : Option ℕ) → width_of (get_or stream at 0) ≡ o → SmallReply (read t stream at (decoded stream at (framed_by stream at o))).reply
-        go none e = omega (arith, bytes at)
-        go (some w) e = whole-or-short (leb (at + w) (length stream))
+        go None e = omega (arith, bytes at)
+        go (Some w) e = whole-or-short (leb (at + w) (length stream))
           where
             whole-or-short : (b : Bool) → SmallReply (read t stream at (decoded stream at (cond b (whole w) short))).reply
             whole-or-short true = rw (obeyed-answer_to t (command_at stream (frame at w)) (at + w)) (small_answer t allowed (command_at stream (frame at w)) (command_at-bytes stream bytes at w))
@@ -118,6 +118,6 @@ module _ (t : State) (stream : List ℕ) (at : ℕ) (bytes : Bytes stream) where
     where
       go : (o : Option Refusal) → call_refusal t stream at ≡ o → Small (call_refusal t stream at) → (b : Bool) → eqb at (length stream) ≡ b
           → SmallReply (call t stream at).reply
-      go (some r) e k b f = rw (e, call) (subst Small e k)
-      go none e k true f = rw (e, call, f) tt
-      go none e k false f = let (in-limit, u, h) = call_checked t stream at e in rw (e, call, f) (small_read u.record_possible (omega (arith, in-limit, h)))
+      go (Some r) e k b f = rw (e, call) (subst Small e k)
+      go None e k true f = rw (e, call, f) tt
+      go None e k false f = let (in-limit, u, h) = call_checked t stream at e in rw (e, call, f) (small_read u.record_possible (omega (arith, in-limit, h)))

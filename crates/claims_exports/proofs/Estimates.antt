@@ -1,7 +1,7 @@
 -- The demands of `placer_estimate`: whatever it ensures is what the direct call ensures, of the outcome that its reply tells
 -- (`estimated_read` of `placer`), so each demand that is met by the direct call is met by the export. Assumes nothing.
 use Prim.Native.Nat.{ℕ}
-use mathlib.Core.Option.{Option}
+use Rattle.std.specs.Prelude.{Option}
 use mathlib.Core.List.{List}
 use lib.ListN.{length}
 use lib.Ieee.{Float}

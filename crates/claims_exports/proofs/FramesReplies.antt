@@ -2,7 +2,7 @@
 use Prim.Native.Nat.{ℕ, ◌*◌, ◌^◌, ◌≤◌, ◌<◌}
 use native.Mathlib.Omega.{arith}
 use mathlib.Core.Path.{◌≡◌, refl, sym, ap, ◌∙◌, subst}
-use mathlib.Core.Option.{Option, none, some}
+use Rattle.std.specs.Prelude.{Option, None, Some}
 use mathlib.Core.List.{List}
 use lib.ListN.{length}
 use Rattle.refusal.specs.Table.{detail_of}
@@ -22,20 +22,20 @@ module _ (frames commands : List ℕ) (r : ℕ) (commands' : List ℕ) (into : I
   small_answer : SmallImported (imported_of frames commands)
   small_answer = go (frames_refusal (length frames) (length commands)) refl
     where
-      plain : (q : Refusal) → frames_refusal (length frames) (length commands) ≡ some q → detail_of q < 2 ^ 32
+      plain : (q : Refusal) → frames_refusal (length frames) (length commands) ≡ Some q → detail_of q < 2 ^ 32
       plain q e = omega (arith, frames-plain (length frames) (length commands) q e)
 
       go : (o : Option Refusal) → frames_refusal (length frames) (length commands) ≡ o → SmallImported (imported_of frames commands)
-      go (some q) e = subst SmallImported (sym (import_refused frames commands q e).0) (plain q e)
-      go none e = subst SmallImported (sym (import_passed frames commands e).0) (omega (arith, (frames_passed (length frames) (length commands) e).few))
+      go (Some q) e = subst SmallImported (sym (import_refused frames commands q e).0) (plain q e)
+      go None e = subst SmallImported (sym (import_passed frames commands e).0) (omega (arith, (frames_passed (length frames) (length commands) e).few))
 
   unchanged-above : 2 ^ 32 ≤ r → commands' ≡ commands
   unfolding code_of_imported
   unchanged-above above = go (frames_refusal (length frames) (length commands)) refl
     where
       go : (o : Option Refusal) → frames_refusal (length frames) (length commands) ≡ o → commands' ≡ commands
-      go (some q) e = into.answer ∙ (import_refused frames commands q e).1
-      go none e =
+      go (Some q) e = into.answer ∙ (import_refused frames commands q e).1
+      go None e =
           let count : r ≡ frames_in frames = into.reply ∙ ap code_of_imported (import_passed frames commands e).0 in
           absurd (omega (arith, count, (frames_passed (length frames) (length commands) e).few))
 

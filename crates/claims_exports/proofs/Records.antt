@@ -6,7 +6,7 @@ use native.Mathlib.Omega.{arith}
 use mathlib.Core.Path.{◌≡◌, refl, sym, ap, subst, ◌∙◌}
 use mathlib.Core.Logic.{⊎_elim}
 use mathlib.Core.Bool.{Bool, true, false}
-use mathlib.Core.Option.{Option, none, some}
+use Rattle.std.specs.Prelude.{Option, None, Some}
 use mathlib.Core.List.{List, ◌∷◌}
 use lib.ListN.{length, get_or, take, drop, length-append, length-drop}
 use lib.Dec.{T, eqb}
@@ -114,7 +114,7 @@ wordable_sound s mask_each sound =
     }
 
 wordable_after : (t : State) → Wordable t.session → T (possible t.session) → (command : Command)
-    → command_refusal (held_of t.session) t.buffer command ≡ none → Wordable (session_after t.session command)
+    → command_refusal (held_of t.session) t.buffer command ≡ None → Wordable (session_after t.session command)
 unfolding command_refusal session_after
 wordable_after t w allowed (edit change) e =
     let law = edit_law change in
@@ -123,15 +123,15 @@ wordable_after t w allowed solve e = w
 
 -- What holds of a session, and of what each accepted command leaves of it, holds of what a call leaves.
 module _ (P : Session → Type 0) (t : State) (here : P t.session)
-    (after : T (possible t.session) → (command : Command) → command_refusal (held_of t.session) t.buffer command ≡ none
+    (after : T (possible t.session) → (command : Command) → command_refusal (held_of t.session) t.buffer command ≡ None
     → P (session_after t.session command)) where
   kept_answer : T (possible t.session) → (command : Command) → P (answer_to t command).after.session
   unfolding state_after
   kept_answer allowed command = go (command_refusal (held_of t.session) t.buffer command) refl
     where
       go : (o : Option Refusal) → command_refusal (held_of t.session) t.buffer command ≡ o → P (answer_to t command).after.session
-      go none e = rw (answer_to-accepted t command e) (after allowed command e)
-      go (some r) e = rw (answer_to-refused t command r e) here
+      go None e = rw (answer_to-accepted t command e) (after allowed command e)
+      go (Some r) e = rw (answer_to-refused t command r e) here
 
   kept_read : T (possible t.session) → (stream : List ℕ) (at : ℕ) (p : Parsed) → P (read t stream at p).after.session
   unfolding read
@@ -144,9 +144,9 @@ module _ (P : Session → Type 0) (t : State) (here : P t.session)
   kept_call stream at = go (call_refusal t stream at) refl (eqb at (length stream)) refl
     where
       go : (o : Option Refusal) → call_refusal t stream at ≡ o → (b : Bool) → eqb at (length stream) ≡ b → P (call t stream at).after.session
-      go (some r) e b f = rw (e, call) here
-      go none e true f = rw (e, call, f) here
-      go none e false f =
+      go (Some r) e b f = rw (e, call) here
+      go None e true f = rw (e, call, f) here
+      go None e false f =
           let (_, usable, _) = call_checked t stream at e in
           rw (e, call, f) (kept_read usable.record_possible stream at (parse stream at))
 

@@ -6,7 +6,7 @@ use native.Mathlib.Omega.{arith}
 use mathlib.Core.Path.{◌≡◌, refl, sym, ap, ap₂, subst, ◌∙◌}
 use mathlib.Core.Logic.{◌⊎◌, inl, inr, ⊎_elim}
 use mathlib.Core.Bool.{Bool, true, false, not, ◌&&◌, ◌||◌, or-true}
-use mathlib.Core.Option.{Option, none, some}
+use Rattle.std.specs.Prelude.{Option, None, Some}
 use mathlib.Core.List.{List, [], ◌∷◌}
 use lib.ListN.{length, get_or, drop}
 use lib.Dec.{T, leb}
@@ -50,11 +50,11 @@ module _ (s : Session) (a b : ℕ) where
   entry-counts p h l =
       ap (λ (m : List ℕ). get_or m (entry_place a b) 0) (sound_of_possible s (true_T _ p)).true_summary ∙ summary_at s.masks a b h l
 
-  refused_code : (q : Refusal) → query_refusal s a b ≡ some q → code_of_shared (shared_answer s a b) ≡ code_of q
+  refused_code : (q : Refusal) → query_refusal s a b ≡ Some q → code_of_shared (shared_answer s a b) ≡ code_of q
   unfolding code_of_shared
   refused_code q e = ap code_of_shared (answer-refused s a b q e)
 
-  counted_code : query_refusal s a b ≡ none → code_of_shared (shared_answer s a b) ≡ shared_by s.masks a b
+  counted_code : query_refusal s a b ≡ None → code_of_shared (shared_answer s a b) ≡ shared_by s.masks a b
   unfolding code_of_shared
   counted_code e =
       let passed = query_passed s a b e in
@@ -80,11 +80,11 @@ module _ (s : Session) (a b : ℕ) where
   small_answer h l = go (query_refusal s a b) refl (small_refusal h l)
     where
       go : (o : Option Refusal) → query_refusal s a b ≡ o → Small (query_refusal s a b) → SmallShared (shared_answer s a b)
-      go none e small =
+      go None e small =
           let passed = query_passed s a b e in
           let counts = entry-counts passed.record_possible passed.first_small passed.second_small in
           subst SmallShared (sym (answer-counted s a b e)) (omega (arith, counts, shared_by-le s.masks a b))
-      go (some q) e small = subst SmallShared (sym (answer-refused s a b q e)) (subst Small e small)
+      go (Some q) e small = subst SmallShared (sym (answer-refused s a b q e)) (subst Small e small)
 
 -- ---- the reply
 

@@ -5,7 +5,7 @@ use Prim.Native.Nat.{ℕ, ◌+◌, ◌≤◌, ◌<◌}
 use native.Mathlib.Omega.{arith}
 use mathlib.Core.Path.{◌≡◌, sym, ap, subst, ◌∙◌}
 use mathlib.Core.Bool.{true}
-use mathlib.Core.Option.{none}
+use Rattle.std.specs.Prelude.{None}
 use mathlib.Core.List.{List}
 use lib.ListN.{length, get_or}
 use lib.Ieee.{Float}
@@ -31,10 +31,10 @@ use Rattle.claims_exports.proofs.Answers.{next_again, answer_again}
 -- The call at Solve's byte, in any state that passes the checks before all else.
 pub call-solve : (t : State) → Usable t → (stream : List ℕ) → length stream ≤ max_stream → (at : ℕ) → at < length stream → get_or stream at 0 ≡ solve_byte
     → call t stream at ≡ result (answer_to t solve).reply (answer_to t solve).after (at + solve_width)
-unfolding read width_of
+unfolding read
 call-solve t u stream short at h e =
     call_reads t stream at (passes_of_usable t stream short u) h
-    ∙ ap (read t stream at) (parse-solve stream at (omega arith) (omega arith) (omega arith) (rw e (omega arith)) (rw e (omega arith)))
+    ∙ ap (read t stream at) (parse-solve stream at e (omega arith))
     ∙ obeyed-answer_to t solve (at + solve_width)
 
 module _ (words stream : List ℕ) (at : ℕ) (buffer first : List Float) (second : List ℕ) (r next : ℕ) (words' : List ℕ) (buffer' first' : List Float)
@@ -63,7 +63,7 @@ module _ (words stream : List ℕ) (at : ℕ) (buffer first : List Float) (secon
     solve_step_as_direct = subst (AsDirect t) (sym solve_step_answers) (solve_as_direct t usable some_view)
 
     -- Where every held number is finite, as both demands ask.
-    pub solve_step_as_demanded : not_finite (session_grid (held_of (session_in words)) buffer) ≡ none
+    pub solve_step_as_demanded : not_finite (session_grid (held_of (session_in words)) buffer) ≡ None
         → AsDemanded (state_in words buffer first second) (answer_in r words' buffer' first' second')
     solve_step_as_demanded finite =
         let direct : AsDirect t (answer_to t solve) = solve_as_direct t usable some_view in

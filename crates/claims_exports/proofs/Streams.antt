@@ -6,7 +6,7 @@ use native.Mathlib.Decide.{dec_lt}
 use native.Mathlib.Omega.{arith}
 use mathlib.Core.Path.{◌≡◌, refl, sym, ap, ap₂, ◌∙◌}
 use mathlib.Core.Bool.{Bool, true, false, true≢false}
-use mathlib.Core.Option.{Option, none, some}
+use Rattle.std.specs.Prelude.{Option, None, Some}
 use mathlib.Core.List.{List, [], ◌∷◌}
 use lib.ListN.{length}
 use lib.Dec.{ltb}
@@ -18,7 +18,6 @@ use Rattle.refusal.specs.declared.Refusal.TheVariants.{WrongLength, Truncated, T
 use Rattle.session_record.specs.Session.{fresh}
 use Rattle.session_commands.specs.Obeyed.{State, state, Result}
 use Rattle.session.specs.Call.{max_stream, call_refusal, call, unusable}
-use Rattle.session_commands.specs.declared.Reply.TheVariants.{Refused}
 use Rattle.session.proofs.Advancing.{call_advances}
 use Rattle.claims_streams.specs.Stream.{Answer, meaning, ends_stream, calls_from, calls}
 use Rattle.claims_streams.proofs.Streams.{calls_from-ends, calls_from_goes_on, calls_give_meaning}
@@ -30,16 +29,17 @@ use Rattle.claims_exports.specs.InHand.{state_in, Bytes}
 use Rattle.claims_exports.specs.Steps.{Steps, the_last, one_more, fresh_words}
 use Rattle.claims_exports.proofs.Answers.{record_again, next_again, state_again, reply_again, step_answers}
 use Rattle.claims_exports.proofs.Details.{call_checked, small_call}
+use Rattle.std.specs.Prelude.{Err}
 
 -- ---- a call at or past the stream's end is the last
 
 module _ (t : State) (stream : List ℕ) (at : ℕ) where
-  check_ends : (r : Refusal) → call_refusal t stream at ≡ some r → ends_stream (Refused r) ≡ true
+  check_ends : (r : Refusal) → call_refusal t stream at ≡ Some r → ends_stream (Err r) ≡ true
   unfolding call_refusal ends_stream first_of refuse_if
   check_ends r e = go (ltb max_stream (length stream)) (unusable t) (ltb (length stream) at) e
     where
-      go : (a b c : Bool) → first_of (refuse_if a TooLong ∷ refuse_if b WrongLength ∷ refuse_if c (Truncated (length stream)) ∷ []) ≡ some r
-          → ends_stream (Refused r) ≡ true
+      go : (a b c : Bool) → first_of (refuse_if a TooLong ∷ refuse_if b WrongLength ∷ refuse_if c (Truncated (length stream)) ∷ []) ≡ Some r
+          → ends_stream (Err r) ≡ true
       go true b c f = let same : TooLong ≡ r = cc in rw (← same)
       go false true c f = let same : WrongLength ≡ r = cc in rw (← same)
       go false false true f = let same : Truncated (length stream) ≡ r = cc in rw (← same)
@@ -50,8 +50,8 @@ module _ (t : State) (stream : List ℕ) (at : ℕ) where
   ends-outside h = go (call_refusal t stream at) refl
     where
       go : (o : Option Refusal) → call_refusal t stream at ≡ o → ends_stream (call t stream at).reply ≡ true
-      go (some r) e = rw (e, call) (check_ends r e)
-      go none e = rw (e, call, eq-eqb at (length stream) (omega (arith, h, (call_checked t stream at e).2)))
+      go (Some r) e = rw (e, call) (check_ends r e)
+      go None e = rw (e, call, eq-eqb at (length stream) (omega (arith, h, (call_checked t stream at e).2)))
 
   inside_goes_on : ends_stream (call t stream at).reply ≡ false → at < length stream
   inside_goes_on e = go (dec_lt at (length stream))

@@ -9,7 +9,6 @@ use lib.ListN.{length}
 use lib.Ieee.{Float}
 use Rattle.session_commands.specs.Obeyed.{State, Result, result}
 use Rattle.session.specs.Call.{call}
-use Rattle.session_commands.specs.declared.Reply.TheVariants.{Accepted}
 use Rattle.claims_streams.specs.Stream.{Answer}
 use Rattle.claims_streams.specs.Alike.{SameHeld, AnswersAlike}
 use Rattle.claims_streams.specs.TakenBack.{PoseThenWithdrawal, TakenBack}
@@ -27,6 +26,8 @@ use Rattle.claims_exports.proofs.Records.{wordable_in}
 use Rattle.claims_exports.proofs.Answers.{record_again}
 use Rattle.claims_exports.proofs.StepDemand1.{step_result}
 use Rattle.claims_exports.proofs.Streams.{steps_give_meaning}
+use Rattle.std.specs.Prelude.{Ok}
+use Rattle.session_commands.specs.declared.Done.TheVariants.{Accepted}
 
 -- The first call answers 1, which is Accepted, on a Pose; the second is made on its withdrawal, in the same stream or another.
 module _ (words stream : List ℕ) (at : ℕ) (buffer first : List Float) (second : List ℕ) (next : ℕ) (words₁ : List ℕ) (buffer₁ first₁ : List Float)
@@ -49,7 +50,7 @@ module _ (words stream : List ℕ) (at : ℕ) (buffer first : List Float) (secon
   second_call : result (reply_in r) (state_in words₂ buffer₂ first₂ second₂) next₂ ≡ call t₁ stream' at'
   second_call = step_result words₁ stream' at' buffer₁ first₁ second₁ r next₂ words₂ buffer₂ first₂ second₂ still_a_record bytes' withdrawal
 
-  accepted : (call t stream at).reply ≡ Accepted
+  accepted : (call t stream at).reply ≡ Ok Accepted
   unfolding reply_in
   accepted = sym (ap (λ (x : Result). x.reply) first-call)
 

@@ -5,13 +5,13 @@ use Rattle.arithmetic.specs.Pose.{flat, finite_pose, nowhere}
 use Rattle.arithmetic.specs.declared.pose.Pose.{Pose}
 use Rattle.refusal.specs.Table.{number_of, detail_of}
 use Rattle.refusal.specs.declared.Refusal.{Refusal}
-use Rattle.averaging.specs.declared.Averaged.{Averaged}
-use Rattle.averaging.specs.declared.Averaged.TheVariants.{Refused, Mean}
+use Rattle.averaging.specs.Entry.{Averaged}
 use Rattle.claims_direct.specs.Deciding.{Check, naming, plain, Decides, LowestBelow}
 use Rattle.claims_direct.specs.Demand1.{NotAllFinite}
 use Rattle.claims_direct.specs.RustStd.{ok}
 use Rattle.claims_direct.specs.RustAverage.{average_isometries?}
 use Rattle.placer.specs.Reading.{number_in, detail_in}
+use Rattle.std.specs.Prelude.{Err, Ok}
 
 module _ (poses : List Pose) where
   -- "It refuses an empty list with 1, more than 64 with 2, and a non-finite number with 7, detail being the lowest pose."
@@ -30,9 +30,9 @@ module _ (poses : List Pose) where
 
   -- What the demand asks of the entry's answer, and that a mean is the Rust's own: `average_isometries` of extrinsics.rs.
   pub record AverageDemand1 (o : Averaged) : Type 0 where
-    pub refused_exactly : (n d : ℕ) → ((q : Refusal) × (o ≡ Refused q) × (number_of q ≡ n) × (detail_of q ≡ d)) ↔ Decides average_checks n d
-    pub accepted_exactly : ((p : Pose) × (o ≡ Mean p)) ↔ Averageable
-    pub as_rust : Averageable → (p : Pose) × (average_isometries? poses ≡ ok p) × (o ≡ Mean p)
+    pub refused_exactly : (n d : ℕ) → ((q : Refusal) × (o ≡ Err q) × (number_of q ≡ n) × (detail_of q ≡ d)) ↔ Decides average_checks n d
+    pub accepted_exactly : ((p : Pose) × (o ≡ Ok p)) ↔ Averageable
+    pub as_rust : Averageable → (p : Pose) × (average_isometries? poses ≡ ok p) × (o ≡ Ok p)
 
   -- The same of the export `rig_average_isometries`, which is lent `mean`, replies r and leaves `mean'`: "A reply of 2^32 or more is a refusal:
   -- its number in the upper 32 bits, what it names in the lower", and "A refusal changes [..] no lent memory."

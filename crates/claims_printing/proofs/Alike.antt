@@ -4,7 +4,7 @@
 use Prim.Native.Nat.{ℕ, zero, suc, ◌-◌}
 use mathlib.Core.Path.{◌≡◌, refl, sym, ap₂, subst, ◌∙◌}
 use mathlib.Core.Bool.{Bool, true, false, ◌&&◌, cond}
-use mathlib.Core.Option.{Option, none, some}
+use Rattle.std.specs.Prelude.{Option, None, Some}
 use mathlib.Core.List.{List, [], ◌++◌}
 use lib.ListN.{length}
 use lib.Dec.{leb, ltb}
@@ -12,7 +12,7 @@ use lib.Ieee.{Float}
 use Rattle.refusal.specs.declared.Refusal.{Refusal}
 use Rattle.session_commands.specs.Obeyed.{State, Result}
 use Rattle.session.specs.Call.{call_refusal, call}
-use Rattle.session_commands.specs.declared.Reply.{Reply}
+use Rattle.session_commands.specs.Reply.{Reply}
 use Rattle.listing.specs.Listing.{refusal_line, listing_bytes, printed_text, printed_by}
 use Rattle.claims_streams.specs.Stream.{rest_of, Answer, meaning}
 use Rattle.claims_streams.specs.Alike.{Alike, AlikeSince, AnswersAlike, no_answers, one_answer, CallsAlike}
@@ -48,9 +48,9 @@ module _ (t t' : State) (same : Alike t t') (stream : List ℕ) where
 
         go : (o : Option Refusal) → call_refusal t stream at ≡ o
             → AnswersAlike t.buffer t'.buffer (meaning_from t stream at) (meaning_from t' stream at)
-        go (some r) e =
+        go (Some r) e =
             rw (meaning_from-refused t stream at r e, meaning_from-refused t' stream at r (also e)) (one_answer refl (since_now same) no_answers)
-        go none e =
+        go None e =
             rw (meaning_from_passes t stream at e, meaning_from_passes t' stream at (also e))
             (answers_of-alike t t' same (usable_of_call t stream at e).0 (rest_of stream at))
 
@@ -112,22 +112,22 @@ module _ (b b' : List Float) where
   in_alike t t' h stream at room = refused (text_refusal stream room)
     where
       from : (o : Option Refusal) → PartsAlike b b'
-          (elim o [ some r ↦ part t (length stream) (refusal_line r) | none ↦ part_within (length stream) t stream at room ])
-          (elim o [ some r ↦ part t' (length stream) (refusal_line r) | none ↦ part_within (length stream) t' stream at room ])
-      from (some r) = nothing_yet t t' (length stream) (refusal_line r) h
-      from none = within-alike (length stream) t t' h stream at room
+          (elim o [ Some r ↦ part t (length stream) (refusal_line r) | None ↦ part_within (length stream) t stream at room ])
+          (elim o [ Some r ↦ part t' (length stream) (refusal_line r) | None ↦ part_within (length stream) t' stream at room ])
+      from (Some r) = nothing_yet t t' (length stream) (refusal_line r) h
+      from None = within-alike (length stream) t t' h stream at room
 
       passed : PartsAlike b b' (part_from t stream at room) (part_from t' stream at room)
       passed =
           subst (λ (o : Option Refusal). PartsAlike b b' (part_from t stream at room)
-          (elim o [ some r ↦ part t' (length stream) (refusal_line r) | none ↦ part_within (length stream) t' stream at room ]))
+          (elim o [ Some r ↦ part t' (length stream) (refusal_line r) | None ↦ part_within (length stream) t' stream at room ]))
           (call_refusal-alike t t' h.alike stream at) (from (call_refusal t stream at))
 
       refused : (o : Option Refusal) → PartsAlike b b'
-          (elim o [ some r ↦ part t (length stream) [] | none ↦ part_from t stream at room ])
-          (elim o [ some r ↦ part t' (length stream) [] | none ↦ part_from t' stream at room ])
-      refused (some r) = nothing_yet t t' (length stream) [] h
-      refused none = passed
+          (elim o [ Some r ↦ part t (length stream) [] | None ↦ part_from t stream at room ])
+          (elim o [ Some r ↦ part t' (length stream) [] | None ↦ part_from t' stream at room ])
+      refused (Some r) = nothing_yet t t' (length stream) [] h
+      refused None = passed
 
   rounds_since : (most : ℕ) (rooms : ℕ → ℕ) (t t' : State) → AlikeSince b b' t t' → (stream : List ℕ) (at : ℕ)
       → PartsAlike b b' (rounds_from most rooms t stream at) (rounds_from most rooms t' stream at)

@@ -9,7 +9,7 @@ use native.Mathlib.Omega.{arith}
 use mathlib.Core.Path.{◌≡◌, refl, sym, ap, ◌∙◌, subst}
 use mathlib.Core.Logic.{inl, inr}
 use mathlib.Core.Bool.{Bool, true, false, cond}
-use mathlib.Core.Option.{Option, none, some}
+use Rattle.std.specs.Prelude.{Option, None, Some}
 use mathlib.Core.List.{List, [], ◌∷◌, ◌++◌, append-nil, append_assoc}
 use lib.ListN.{length, take}
 use lib.Dec.{ltb}
@@ -22,7 +22,6 @@ use Rattle.refusal.specs.declared.Refusal.TheVariants.{Truncated}
 use Rattle.command.specs.Command.{Parsed, complete, broken, unknown, parse}
 use Rattle.session_commands.specs.Obeyed.{State, state, Result, result}
 use Rattle.session.specs.Call.{max_stream, call_refusal, read, call}
-use Rattle.session_commands.specs.declared.Reply.TheVariants.{End, Refused}
 use Rattle.command.proofs.Decoding.{parse-complete}
 use Rattle.session.proofs.Advancing.{call_advances}
 use Rattle.session.proofs.PassedCalls.{call_passed}
@@ -36,6 +35,8 @@ use Rattle.stream_text.specs.StreamText.{Part, part, behind, part_within, part_i
 use Rattle.stream_text.specs.declared.StreamText.{StreamText}
 use Rattle.stream_text.proofs.Parts.{part_within-nothing, part_within-turn, part_within-ends, part_within_enough, part_within-next, part_within_advances, call_keeps_passing, part_within_keeps_passing, part_in-refused, part_in_passes}
 use Rattle.claims_printing.specs.Printed.{printed, whole_of, meaning_from, whole_from, rounds_from, fresh_state, input_bytes}
+use Rattle.std.specs.Prelude.{Err, Ok}
+use Rattle.session_commands.specs.declared.Done.TheVariants.{End}
 
 -- ---- a loop over single calls
 
@@ -114,7 +115,7 @@ module _ (stream : List ℕ) (short : length stream ≤ max_stream) where
   loop_calls_end most t at u e =
       loop-end stream most t at (omega arith)
       ∙ ap (λ (n : ℕ). part t n []) e
-      ∙ sym (ap (left_by t stream) (calls_from-ends most t stream at (result End t at) (call_end t stream at (passes_of_usable t stream short u) e) refl))
+      ∙ sym (ap (left_by t stream) (calls_from-ends most t stream at (result (Ok End) t at) (call_end t stream at (passes_of_usable t stream short u) e) refl))
 
   loop_calls-turn : (most : ℕ) → LoopCalls most → (t : State) (at : ℕ) → Usable t → at < length stream → length stream ≤ suc most + at
       → loop_from (suc most) t stream at ≡ left_by t stream (calls_from (suc (suc most)) t stream at)
@@ -144,12 +145,12 @@ module _ (stream : List ℕ) (short : length stream ≤ max_stream) where
 
 -- ---- the meaning from an offset on
 
-pub meaning_from-refused : (t : State) (stream : List ℕ) (at : ℕ) (r : Refusal) → call_refusal t stream at ≡ some r
-    → meaning_from t stream at ≡ answer (Refused r) t ∷ []
+pub meaning_from-refused : (t : State) (stream : List ℕ) (at : ℕ) (r : Refusal) → call_refusal t stream at ≡ Some r
+    → meaning_from t stream at ≡ answer (Err r) t ∷ []
 unfolding meaning_from
 meaning_from-refused t stream at r e = rw (e, meaning_from)
 
-pub meaning_from_passes : (t : State) (stream : List ℕ) (at : ℕ) → call_refusal t stream at ≡ none → meaning_from t stream at ≡ answers_of t (rest_of stream at)
+pub meaning_from_passes : (t : State) (stream : List ℕ) (at : ℕ) → call_refusal t stream at ≡ None → meaning_from t stream at ≡ answers_of t (rest_of stream at)
 unfolding meaning_from
 meaning_from_passes t stream at e = rw (e, meaning_from)
 
@@ -159,19 +160,19 @@ unfolding contents_of
 meaning_from_beginning t stream = go (stream_refusal t stream) refl
   where
     go : (o : Option Refusal) → stream_refusal t stream ≡ o → meaning_from t stream 0 ≡ meaning t stream
-    go none e = meaning_from_passes t stream 0 (call_refusal_passes t stream 0 e (omega arith)) ∙ sym (meaning_passes t stream e)
-    go (some r) e = meaning_from-refused t stream 0 r (call_refusal_refuses t stream 0 r e) ∙ sym (meaning-refused t stream r e)
+    go None e = meaning_from_passes t stream 0 (call_refusal_passes t stream 0 e (omega arith)) ∙ sym (meaning_passes t stream e)
+    go (Some r) e = meaning_from-refused t stream 0 r (call_refusal_refuses t stream 0 r e) ∙ sym (meaning-refused t stream r e)
 
 pub whole_from_beginning : (t : State) (stream : List ℕ) → whole_from t stream 0 ≡ whole_of t stream
 whole_from_beginning t stream = ap (left_by t stream) (meaning_from_beginning t stream)
 
-whole_from-refused : (t : State) (stream : List ℕ) (at : ℕ) (r : Refusal) → call_refusal t stream at ≡ some r
+whole_from-refused : (t : State) (stream : List ℕ) (at : ℕ) (r : Refusal) → call_refusal t stream at ≡ Some r
     → whole_from t stream at ≡ part t (length stream) (refusal_line r)
 unfolding printed last_state reply_text
 whole_from-refused t stream at r e = rw (meaning_from-refused t stream at r e) (ap (part t (length stream)) (append-nil (refusal_line r)))
 
 -- Where nothing is refused before all else, the loop from an offset leaves and prints what the stream's meaning from there does.
-pub loop_gives_rest : (t : State) (stream : List ℕ) (at : ℕ) → call_refusal t stream at ≡ none → loop_from (length stream) t stream at ≡ whole_from t stream at
+pub loop_gives_rest : (t : State) (stream : List ℕ) (at : ℕ) → call_refusal t stream at ≡ None → loop_from (length stream) t stream at ≡ whole_from t stream at
 loop_gives_rest t stream at e =
     let (u, inside) = usable_of_call t stream at e in
     let short : length stream ≤ max_stream = (call_passed t stream at e).stream_fits in
@@ -216,11 +217,11 @@ module _ (stream : List ℕ) where
   abbrev RoundsLoop : ℕ → Type 0
   RoundsLoop most =
       (rooms : ℕ → ℕ) → ((i : ℕ) → listing_bytes ≤ rooms i)
-      → (n : ℕ) (t : State) (at : ℕ) → call_refusal t stream at ≡ none → length stream ≤ most + at → length stream ≤ n + at
+      → (n : ℕ) (t : State) (at : ℕ) → call_refusal t stream at ≡ None → length stream ≤ most + at → length stream ≤ n + at
       → rounds_from most rooms t stream at ≡ loop_from n t stream at
 
   -- A part that comes to the stream's end is all of the loop.
-  part-ends : (room n : ℕ) (t : State) (at : ℕ) → listing_bytes ≤ room → call_refusal t stream at ≡ none → length stream ≤ n + at
+  part-ends : (room n : ℕ) (t : State) (at : ℕ) → listing_bytes ≤ room → call_refusal t stream at ≡ None → length stream ≤ n + at
       → length stream ≤ (part_in t stream at room).next → part_in t stream at room ≡ loop_from n t stream at
   part-ends room n t at holds passes enough ends =
       let p = part_within (length stream) t stream at room in
@@ -230,9 +231,9 @@ module _ (stream : List ℕ) where
       ∙ ap (behind p.text) (sym (loop-end stream n p.after p.next (subst (λ (q : Part). length stream ≤ q.next) is ends)))
       ∙ sym (loop_cut stream (length stream) n t at room enough)
 
-  part_goes_on : (room n : ℕ) (t : State) (at : ℕ) → listing_bytes ≤ room → call_refusal t stream at ≡ none → length stream ≤ n + at
+  part_goes_on : (room n : ℕ) (t : State) (at : ℕ) → listing_bytes ≤ room → call_refusal t stream at ≡ None → length stream ≤ n + at
       → let p = part_in t stream at room in
-      (loop_from n t stream at ≡ behind p.text (loop_from n p.after stream p.next)) × (call_refusal p.after stream p.next ≡ none) × (at ≤ p.next) × (at < length stream → at < p.next)
+      (loop_from n t stream at ≡ behind p.text (loop_from n p.after stream p.next)) × (call_refusal p.after stream p.next ≡ None) × (at ≤ p.next) × (at < length stream → at < p.next)
   part_goes_on room n t at holds passes enough =
       rw (part_in_passes t stream at room holds passes) (
         loop_cut stream (length stream) n t at room enough,
@@ -263,12 +264,12 @@ module _ (stream : List ℕ) where
 -- ---- the rest of a stream, and whole streams
 
 past_end : (t : State) (stream : List ℕ) (at : ℕ) → length stream ≤ max_stream → Usable t → length stream < at
-    → call_refusal t stream at ≡ some (Truncated (length stream))
+    → call_refusal t stream at ≡ Some (Truncated (length stream))
 unfolding call_refusal first_of refuse_if
 past_end t stream at short u h = rw (le-ltb max_stream (length stream) short, check_of_usable t u, lt-ltb (length stream) at h) refl
 
 -- 13, 5 or 11 is the answer to the first call, and there is no second.
-rounds_refused : (t : State) (stream : List ℕ) (at : ℕ) (rooms : ℕ → ℕ) → ((i : ℕ) → listing_bytes ≤ rooms i) → (r : Refusal) → call_refusal t stream at ≡ some r
+rounds_refused : (t : State) (stream : List ℕ) (at : ℕ) (rooms : ℕ → ℕ) → ((i : ℕ) → listing_bytes ≤ rooms i) → (r : Refusal) → call_refusal t stream at ≡ Some r
     → (most : ℕ) → rounds_from most rooms t stream at ≡ part t (length stream) (refusal_line r)
 unfolding rounds_from
 rounds_refused t stream at rooms hold r e = once
@@ -287,8 +288,8 @@ pub rounds_give_rest : (t : State) (stream : List ℕ) (at : ℕ) (rooms : ℕ �
 rounds_give_rest t stream at rooms hold = go (call_refusal t stream at) refl
   where
     go : (o : Option Refusal) → call_refusal t stream at ≡ o → rounds_from (length stream) rooms t stream at ≡ whole_from t stream at
-    go none e = rounds_loop stream (length stream) rooms hold (length stream) t at e (omega arith) (omega arith) ∙ loop_gives_rest t stream at e
-    go (some r) e = rounds_refused t stream at rooms hold r e (length stream) ∙ sym (whole_from-refused t stream at r e)
+    go None e = rounds_loop stream (length stream) rooms hold (length stream) t at e (omega arith) (omega arith) ∙ loop_gives_rest t stream at e
+    go (Some r) e = rounds_refused t stream at rooms hold r e (length stream) ∙ sym (whole_from-refused t stream at r e)
 
 -- From the beginning on, what the whole stream's meaning does.
 pub rounds_give_whole : (t : State) (stream : List ℕ) (rooms : ℕ → ℕ) → ((i : ℕ) → listing_bytes ≤ rooms i)
@@ -305,7 +306,7 @@ rounds_past_end t stream at rooms hold short u past =
 
 -- What is left once the stream is at its end, and all that is printed until then.
 unfoldable pub at_end : State → List ℕ → ℕ → Part
-at_end t stream at = elim (call_refusal t stream at) [ some r ↦ part t (length stream) (refusal_line r) | none ↦ loop_from (length stream) t stream at ]
+at_end t stream at = elim (call_refusal t stream at) [ Some r ↦ part t (length stream) (refusal_line r) | None ↦ loop_from (length stream) t stream at ]
 
 -- It is what the stream's meaning from that offset leaves and prints.
 pub at_end_from : (t : State) (stream : List ℕ) (at : ℕ) → at_end t stream at ≡ whole_from t stream at
@@ -313,8 +314,8 @@ unfolding at_end
 at_end_from t stream at = go (call_refusal t stream at) refl
   where
     go : (o : Option Refusal) → call_refusal t stream at ≡ o → at_end t stream at ≡ whole_from t stream at
-    go none e = rw (e, at_end) (loop_gives_rest t stream at e)
-    go (some r) e = rw (e, at_end) (sym (whole_from-refused t stream at r e))
+    go None e = rw (e, at_end) (loop_gives_rest t stream at e)
+    go (Some r) e = rw (e, at_end) (sym (whole_from-refused t stream at r e))
 
 pub at_end_whole : (t : State) (stream : List ℕ) → at_end t stream 0 ≡ whole_of t stream
 at_end_whole t stream = at_end_from t stream 0 ∙ whole_from_beginning t stream
@@ -334,7 +335,7 @@ module _ (t : State) (stream : List ℕ) (at : ℕ) where
   one_round room holds = go (call_refusal t stream at) refl
     where
       go : (o : Option Refusal) → call_refusal t stream at ≡ o → OneRound t stream at (part_in t stream at room)
-      go (some r) e =
+      go (Some r) e =
           rw (part_in-refused t stream at room holds r e)
           (record {
             goes_on = λ h. absurd (omega arith);
@@ -342,7 +343,7 @@ module _ (t : State) (stream : List ℕ) (at : ℕ) where
             stream_fits = λ h. absurd (omega arith);
             ends = λ h. rw (e, at_end) refl;
           })
-      go none e =
+      go None e =
           let (cut, on, forward, moved) = part_goes_on stream room (length stream) t at holds e (omega arith) in
           record {
             goes_on = λ h. rw (on, at_end) (rw (e, at_end) (sym cut));
@@ -365,7 +366,7 @@ module _ (t : State) (stream : List ℕ) (at : ℕ) where
       turn : at < length stream → loop_from (length stream) t stream at ≡ behind (printed_by r) (loop_from (length stream) r.after stream r.next)
       turn h = loop_enough stream (length stream) (suc (length stream)) t at (omega arith) (omega arith) ∙ loop-turn stream (length stream) t at h
 
-      inside : call_refusal t stream at ≡ none → at < length stream → OneRound t stream at alone
+      inside : call_refusal t stream at ≡ None → at < length stream → OneRound t stream at alone
       inside e h =
           record {
             goes_on = λ _. rw (call_keeps_passing t stream at e h, at_end) (rw (e, at_end) (sym (turn h)));
@@ -379,7 +380,7 @@ module _ (t : State) (stream : List ℕ) (at : ℕ) where
           }
 
       go : (o : Option Refusal) → call_refusal t stream at ≡ o → OneRound t stream at alone
-      go (some q) e =
+      go (Some q) e =
           rw (e, call)
           (record {
             goes_on = λ h. absurd (omega arith);
@@ -387,7 +388,7 @@ module _ (t : State) (stream : List ℕ) (at : ℕ) where
             stream_fits = λ h. absurd (omega arith);
             ends = λ h. rw (e, at_end) refl;
           })
-      go none e = within (dec_le (length stream) at)
+      go None e = within (dec_le (length stream) at)
         where
           within : Dec (length stream ≤ at) → OneRound t stream at alone
           within (no h) = inside e (omega arith)

@@ -6,7 +6,7 @@ use native.Mathlib.Omega.{arith}
 use mathlib.Core.Path.{◌≡◌, refl, sym, ap, ◌∙◌, subst}
 use mathlib.Core.Logic.{◌↔◌}
 use mathlib.Core.Bool.{true, ◌&&◌}
-use mathlib.Core.Option.{Option, none, some}
+use Rattle.std.specs.Prelude.{Option, None, Some}
 use mathlib.Core.List.{List, [], ◌∷◌}
 use lib.ListN.{length}
 use lib.Dec.{ltb}
@@ -16,8 +16,7 @@ use Rattle.refusal.specs.Table.{refuse_if, first_of}
 use Rattle.refusal.specs.declared.Refusal.{Refusal}
 use Rattle.refusal.specs.declared.Refusal.TheVariants.{TooLong, WrongLength}
 use Rattle.inputs.specs.Inputs.{checked_of}
-use Rattle.inputs.specs.declared.Checked.{Checked}
-use Rattle.inputs.specs.declared.Checked.TheVariants.{Passed}
+use Rattle.inputs.specs.Inputs.{Checked}
 use Rattle.claims_direct.specs.Deciding.{Decides}
 use Rattle.claims_direct.proofs.Deciding.{Finds, decides_first_of}
 use Rattle.claims_direct.proofs.Carrying.{refuse_if-plain}
@@ -29,6 +28,7 @@ use Rattle.stream_text.specs.declared.StreamText.{StreamText}
 use Rattle.stream_text.specs.StreamText.{part, text_refusal, Leaves, ObeyedInto}
 use Rattle.stream_text.proofs.Parts.{text_refusal-short, text_refusal-holds, part_in-short, leaves_same}
 use Rattle.claims_printing.specs.TextDemand.{TooShort, text_checks, RefusedWith, NothingObeyed, TextDemand}
+use Rattle.std.specs.Prelude.{Ok}
 
 -- ---- the checks in words, and what is computed
 
@@ -63,23 +63,23 @@ decided t stream text at n d =
 
 refused_found : (o : Option Refusal) (n d : ℕ) → RefusedWith (checked_of o) n d ↔ Finds o n d
 unfolding checked_of
-refused_found none n d = (
+refused_found None n d = (
   λ (q, e, number, detail). absurd (let clash : ◌≡◌ {A = ℕ} 0 1 = cc in omega arith),
   λ (q, e, number, detail). absurd (let clash : ◌≡◌ {A = ℕ} 0 1 = cc in omega arith),
 )
-refused_found (some r) n d = (
+refused_found (Some r) n d = (
   λ (q, e, number, detail). (q, cc, number, detail),
   λ (q, e, number, detail). (q, cc, number, detail),
 )
 
-passed_is : checked_of none ≡ Passed
+passed_is : checked_of None ≡ Ok tt
 unfolding checked_of
 passed_is = refl
 
-passed_none : (o : Option Refusal) → checked_of o ≡ Passed → o ≡ none
+passed_none : (o : Option Refusal) → checked_of o ≡ Ok tt → o ≡ None
 unfolding checked_of
-passed_none none e = refl
-passed_none (some r) e = cc
+passed_none None e = refl
+passed_none (Some r) e = cc
 
 module _ {t : State} {stream : List ℕ} {at : ℕ} {answer : StreamText} {buffer first : List Float} {second old new : List ℕ} (obeyed : ObeyedInto t stream at answer buffer first second old new) where
   short : (n d : ℕ) → RefusedWith answer.refused n d → length old < listing_bytes
@@ -94,15 +94,15 @@ module _ {t : State} {stream : List ℕ} {at : ℕ} {answer : StreamText} {buffe
   nothing : length old < listing_bytes → NothingObeyed t stream answer buffer first second old new
   nothing h =
       let l : Leaves (part t (length stream) []) answer buffer first second old new = leaves_same (part_in-short t stream at (length old) h) obeyed.leaves in
-      let none : answer.length ≡ 0 = l.front.text_length in
+      let none_put : answer.length ≡ 0 = l.front.text_length in
       record {
         same_session = l.session;
         same_buffer = l.buffer_after_is;
         same_first = l.first_after_is;
         same_second = l.second_after_is;
-        same_text = rw none at l.front.text_bytes_is;
+        same_text = rw none_put at l.front.text_bytes_is;
         next_at_end = l.next;
-        none_in_use = none;
+        none_in_use = none_put;
       }
 
   pub text_demand : TextDemand t stream answer buffer first second old new
@@ -116,7 +116,7 @@ module _ {t : State} {stream : List ℕ} {at : ℕ} {answer : StreamText} {buffe
         refusal_changes_nothing = λ n d refused. nothing (short n d refused);
       }
     where
-      passes_held : answer.refused ≡ Passed → listing_bytes ≤ length old
+      passes_held : answer.refused ≡ Ok tt → listing_bytes ≤ length old
       passes_held e = go (dec_le listing_bytes (length old))
         where
           go : Dec (listing_bytes ≤ length old) → listing_bytes ≤ length old

@@ -1,16 +1,16 @@
 -- What is printed for a whole stream: the texts of the stream's answers; and what calls of the whole-stream entry, one after the other, leave and print.
 -- Rests on what a stream means, in `claims_streams`, on what a reply prints, in `listing`, and on one call of the entry, in `stream_text`.
 use Rattle.std.specs.Prelude.{ℕ, zero, suc, ◌≡◌, cond, List, [], ◌∷◌, ◌++◌, length, replicate, ltb, Float}
-use Rattle.std.proofs.Math.Option.{none, some}
+use Rattle.std.specs.Prelude.{None, Some}
 use Rattle.arithmetic.specs.Double.{Zero}
 use Rattle.session_record.specs.Session.{fresh, buffer_length}
 use Rattle.session_commands.specs.Obeyed.{State, state, first_length, second_length}
 use Rattle.session.specs.Call.{max_stream, call_refusal}
-use Rattle.session_commands.specs.declared.Reply.TheVariants.{Refused}
 use Rattle.claims_streams.specs.Stream.{rest_of, Answer, answer, last_state, answers_of, meaning}
 use Rattle.claims_streams.specs.Alike.{AlikeSince}
 use Rattle.listing.specs.Listing.{printed_text}
 use Rattle.stream_text.specs.StreamText.{Part, part, behind, part_in}
+use Rattle.std.specs.Prelude.{Err}
 
 -- What answers print, one after the other.
 unfoldable pub printed : List Answer → List ℕ
@@ -24,7 +24,7 @@ whole_of t stream = part (last_state t (meaning t stream)) (length stream) (prin
 -- What a stream means from an offset on: 13, 5, or 11 for an offset past the end, "detail the length"; or the answers to the commands from there, and then
 -- how the stream ends.
 unfoldable pub meaning_from : State → List ℕ → ℕ → List Answer
-meaning_from t stream at = elim (call_refusal t stream at) [ some r ↦ answer (Refused r) t ∷ [] | none ↦ answers_of t (rest_of stream at) ]
+meaning_from t stream at = elim (call_refusal t stream at) [ Some r ↦ answer (Err r) t ∷ [] | None ↦ answers_of t (rest_of stream at) ]
 
 -- What is left and printed from there on.
 abbrev pub whole_from : State → List ℕ → ℕ → Part

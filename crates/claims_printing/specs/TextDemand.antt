@@ -3,13 +3,13 @@
 use Rattle.std.specs.Prelude.{ℕ, ◌≤◌, ◌<◌, ◌≡◌, ◌↔◌, List, [], ◌∷◌, length, Float}
 use Rattle.refusal.specs.Table.{number_of, detail_of}
 use Rattle.refusal.specs.declared.Refusal.{Refusal}
-use Rattle.inputs.specs.declared.Checked.{Checked}
-use Rattle.inputs.specs.declared.Checked.TheVariants.{Passed, Refused}
+use Rattle.inputs.specs.Inputs.{Checked}
 use Rattle.claims_direct.specs.Deciding.{Check, plain, Decides}
 use Rattle.session_commands.specs.Obeyed.{State}
 use Rattle.session.specs.Call.{max_stream}
 use Rattle.listing.specs.Listing.{listing_bytes}
 use Rattle.stream_text.specs.declared.StreamText.{StreamText}
+use Rattle.std.specs.Prelude.{Err, Ok}
 
 -- The text has fewer bytes than the longest reply may take.
 abbrev pub TooShort : List ℕ → Type 0
@@ -21,7 +21,7 @@ text_checks stream text = plain 13 (TooShort text × (max_stream < length stream
 
 -- Refused by a number of the table, with a detail.
 abbrev pub RefusedWith : Checked → ℕ → ℕ → Type 0
-RefusedWith c n d = (q : Refusal) × (c ≡ Refused q) × (number_of q ≡ n) × (detail_of q ≡ d)
+RefusedWith c n d = (q : Refusal) × (c ≡ Err q) × (number_of q ≡ n) × (detail_of q ≡ d)
 
 -- Record, buffer, both answers and every byte of the text are as they were. "5, 10, 11 and 13 end the stream: the next offset is then its length."
 pub record NothingObeyed (t : State) (stream : List ℕ) (answer : StreamText) (buffer first : List Float) (second old new : List ℕ) : Type 0 where
@@ -38,5 +38,5 @@ pub record TextDemand (t : State) (stream : List ℕ) (answer : StreamText) (buf
   -- By number n and detail d exactly when the words of n say so, and no words before them say anything.
   pub refused_exactly : (n d : ℕ) → RefusedWith answer.refused n d ↔ Decides (text_checks stream old) n d
   -- Text that is long enough passes, and no other does.
-  pub passed_exactly : (answer.refused ≡ Passed) ↔ (listing_bytes ≤ length old)
+  pub passed_exactly : (answer.refused ≡ Ok tt) ↔ (listing_bytes ≤ length old)
   pub refusal_changes_nothing : (n d : ℕ) → RefusedWith answer.refused n d → NothingObeyed t stream answer buffer first second old new

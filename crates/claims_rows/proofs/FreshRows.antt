@@ -2,7 +2,7 @@
 use Prim.Native.Nat.{ℕ}
 use mathlib.Core.Path.{◌≡◌, refl, ap, ap₂, ◌∙◌}
 use mathlib.Core.Bool.{Bool}
-use mathlib.Core.Option.{none, some}
+use Rattle.std.specs.Prelude.{None, Some}
 use mathlib.Core.List.{List, [], ◌∷◌}
 use lib.ListN.{length}
 use lib.Dec.{ltb}
@@ -10,20 +10,20 @@ use Rattle.refusal.specs.Table.{refuse_if, or_else, first_of}
 use Rattle.refusal.specs.declared.Refusal.TheVariants.{TooLong, WrongLength}
 use Rattle.session_commands.specs.Obeyed.{State}
 use Rattle.session.specs.Call.{max_stream}
-use Rattle.session_commands.specs.declared.Reply.TheVariants.{Refused}
 use Rattle.claims_streams.specs.Stream.{Answer, answer, contents_of, answers_of, stream_refusal, meaning}
 use Rattle.claims_streams.proofs.Usable.{check_of_usable}
 use Rattle.claims_printing.specs.Printed.{printed, fresh_state}
 use Rattle.claims_printing.proofs.Loop.{fresh_usable}
 use Rattle.claims_rows.specs.Rows.{Row, stream_of, all_printed}
+use Rattle.std.specs.Prelude.{Err}
 
 -- What a stream means from a fresh session: 13, or the answers.
 unfoldable pub fresh_answers : List ℕ → List Answer
 unfolding refuse_if first_of
 fresh_answers stream =
     elim (first_of (refuse_if (ltb max_stream (length stream)) TooLong ∷ [])) [
-      | some r ↦ answer (Refused r) fresh_state ∷ []
-      | none ↦ answers_of fresh_state (contents_of stream)
+      | Some r ↦ answer (Err r) fresh_state ∷ []
+      | None ↦ answers_of fresh_state (contents_of stream)
     ]
 
 pub meaning-fresh : (stream : List ℕ) → meaning fresh_state stream ≡ fresh_answers stream
@@ -32,8 +32,8 @@ meaning-fresh stream =
     ap
     (λ (b : Bool).
     elim (first_of (refuse_if (ltb max_stream (length stream)) TooLong ∷ refuse_if b WrongLength ∷ [])) [
-      | some r ↦ answer (Refused r) fresh_state ∷ []
-      | none ↦ answers_of fresh_state (contents_of stream)
+      | Some r ↦ answer (Err r) fresh_state ∷ []
+      | None ↦ answers_of fresh_state (contents_of stream)
     ])
     (check_of_usable fresh_state fresh_usable)
 

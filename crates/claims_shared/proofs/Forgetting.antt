@@ -5,7 +5,7 @@ use Prim.Native.Nat.{ℕ, zero, suc, ◌+◌}
 use native.Mathlib.Decide.{ℕ_discrete}
 use mathlib.Core.Path.{◌≡◌, refl, sym, ap, subst, ◌∙◌}
 use mathlib.Core.Bool.{Bool, true, false, not, ◌&&◌, ◌||◌}
-use mathlib.Core.Option.{Option, none, some}
+use Rattle.std.specs.Prelude.{Option, None, Some}
 use mathlib.Core.List.{List, [], ◌∷◌, ◌++◌, map}
 use lib.ListN.{length}
 use lib.Dec.{eqb, ltb}
@@ -22,7 +22,6 @@ use Rattle.session_commands.specs.Obeyed.{State, state, Result, first_length, se
 use Rattle.session.specs.Call.{max_stream, call_refusal, read, call}
 use Rattle.session_commands.proofs.Obeying.{obeyed-refused, obeyed-accepted}
 use Rattle.session.proofs.Calling.{call-refused, call_end, call-read}
-use Rattle.session_commands.specs.declared.Reply.TheVariants.{End, Refused}
 use Rattle.listing.specs.Listing.{reply_text}
 use Rattle.claims_streams.specs.Stream.{Answer, answer, ends_stream, meaning, calls_from, calls}
 use Rattle.claims_streams.specs.CallDemand1.{TrueEntries}
@@ -30,19 +29,21 @@ use Rattle.claims_streams.proofs.TrueEntries.{true_entries_is, summary_of_true}
 use Rattle.claims_streams.proofs.Streams.{calls_from-ends, calls_from_goes_on, calls_give_meaning}
 use Rattle.claims_printing.specs.Printed.{printed, fresh_state}
 use Rattle.claims_shared.specs.Plain.{PlainState, PlainResult, plain_result, plain_of, forgotten, plain_refusal, plain_after, plain_read, plain_call, PlainAnswer, plain_answer, plain_calls_from, plain_calls, plain_lines}
+use Rattle.std.specs.Prelude.{Err, Ok}
+use Rattle.session_commands.specs.declared.Done.TheVariants.{End}
 
 -- ---- what one plain call comes to
 
 module _ (t : PlainState) (stream : List ℕ) (at : ℕ) where
-  plain-refused : (r : Refusal) → plain_refusal t stream at ≡ some r → plain_call t stream at ≡ plain_result (Refused r) t (length stream)
+  plain-refused : (r : Refusal) → plain_refusal t stream at ≡ Some r → plain_call t stream at ≡ plain_result (Err r) t (length stream)
   unfolding plain_call
   plain-refused r e = rw (e, plain_call)
 
-  plain_end : plain_refusal t stream at ≡ none → at ≡ length stream → plain_call t stream at ≡ plain_result End t at
+  plain_end : plain_refusal t stream at ≡ None → at ≡ length stream → plain_call t stream at ≡ plain_result (Ok End) t at
   unfolding plain_call
   plain_end e h = rw (e, plain_call) (rw (eq-eqb at (length stream) h))
 
-  plain-read : plain_refusal t stream at ≡ none → (at ≡ length stream → ⊥) → plain_call t stream at ≡ plain_read t stream at (parse stream at)
+  plain-read : plain_refusal t stream at ≡ None → (at ≡ length stream → ⊥) → plain_call t stream at ≡ plain_read t stream at (parse stream at)
   unfolding plain_call
   plain-read e h = rw (e, plain_call) (rw (ne_eqb at (length stream) h))
 
@@ -87,8 +88,8 @@ module _ (t : State) (holds : Summed t) where
     where
       go : (o : Option Refusal) → command_refusal (held_of t.session) t.buffer command ≡ o
           → forgotten (obeyed t command (at + width)) ≡ plain_read (plain_of t) stream at (complete command width)
-      go (some r) e = rw (e, plain_read) (ap forgotten (obeyed-refused t command (at + width) r e))
-      go none e =
+      go (Some r) e = rw (e, plain_read) (ap forgotten (obeyed-refused t command (at + width) r e))
+      go None e =
           rw (e, plain_read)
           (ap forgotten (obeyed-accepted t command (at + width) e) ∙ ap (λ (u : PlainState). plain_result (reply_to command) u (at + width)) (same_after command))
 
@@ -103,9 +104,9 @@ module _ (t : State) (holds : Summed t) where
   one-call stream at = go (call_refusal t stream at) refl (ℕ_discrete at (length stream))
     where
       go : (o : Option Refusal) → call_refusal t stream at ≡ o → Dec (at ≡ length stream) → forgotten (call t stream at) ≡ plain_call (plain_of t) stream at
-      go (some r) e d = ap forgotten (call-refused t stream at r e) ∙ sym (plain-refused (plain_of t) stream at r (sym (same_refusal stream at) ∙ e))
-      go none e (yes h) = ap forgotten (call_end t stream at e h) ∙ sym (plain_end (plain_of t) stream at (sym (same_refusal stream at) ∙ e) h)
-      go none e (no h) =
+      go (Some r) e d = ap forgotten (call-refused t stream at r e) ∙ sym (plain-refused (plain_of t) stream at r (sym (same_refusal stream at) ∙ e))
+      go None e (yes h) = ap forgotten (call_end t stream at e h) ∙ sym (plain_end (plain_of t) stream at (sym (same_refusal stream at) ∙ e) h)
+      go None e (no h) =
           ap forgotten (call-read t stream at e h)
           ∙ same_read stream at (parse stream at)
           ∙ sym (plain-read (plain_of t) stream at (sym (same_refusal stream at) ∙ e) h)
@@ -119,8 +120,8 @@ module _ (t : State) (holds : Summed t) where
   summed-obeyed command next = go (command_refusal (held_of t.session) t.buffer command) refl
     where
       go : (o : Option Refusal) → command_refusal (held_of t.session) t.buffer command ≡ o → Summed (obeyed t command next).after
-      go (some r) e = subst (λ (x : Result). Summed x.after) (sym (obeyed-refused t command next r e)) holds
-      go none e = subst (λ (x : Result). Summed x.after) (sym (obeyed-accepted t command next e)) (summed_edited command)
+      go (Some r) e = subst (λ (x : Result). Summed x.after) (sym (obeyed-refused t command next r e)) holds
+      go None e = subst (λ (x : Result). Summed x.after) (sym (obeyed-accepted t command next e)) (summed_edited command)
 
   summed-read : (stream : List ℕ) (at : ℕ) (p : Parsed) → Summed (read t stream at p).after
   unfolding read
@@ -133,9 +134,9 @@ module _ (t : State) (holds : Summed t) where
   summed-after stream at = go (call_refusal t stream at) refl (ℕ_discrete at (length stream))
     where
       go : (o : Option Refusal) → call_refusal t stream at ≡ o → Dec (at ≡ length stream) → Summed (call t stream at).after
-      go (some r) e d = subst (λ (x : Result). Summed x.after) (sym (call-refused t stream at r e)) holds
-      go none e (yes h) = subst (λ (x : Result). Summed x.after) (sym (call_end t stream at e h)) holds
-      go none e (no h) = subst (λ (x : Result). Summed x.after) (sym (call-read t stream at e h)) (summed-read stream at (parse stream at))
+      go (Some r) e d = subst (λ (x : Result). Summed x.after) (sym (call-refused t stream at r e)) holds
+      go None e (yes h) = subst (λ (x : Result). Summed x.after) (sym (call_end t stream at e h)) holds
+      go None e (no h) = subst (λ (x : Result). Summed x.after) (sym (call-read t stream at e h)) (summed-read stream at (parse stream at))
 
 -- ---- whole streams
 

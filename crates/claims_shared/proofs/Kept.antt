@@ -4,7 +4,7 @@ use Prim.Native.Nat.{ℕ, zero, suc, ◌+◌, ◌-◌}
 use native.Mathlib.Decide.{ℕ_discrete}
 use mathlib.Core.Path.{◌≡◌, refl, sym, subst}
 use mathlib.Core.Bool.{Bool, true, false, ◌&&◌, cond}
-use mathlib.Core.Option.{Option, none, some}
+use Rattle.std.specs.Prelude.{Option, None, Some}
 use mathlib.Core.List.{List, [], ◌∷◌}
 use lib.ListN.{length}
 use lib.Dec.{ltb, leb}
@@ -32,8 +32,8 @@ module _ (t : State) (left : LeftIn t) where
   left-obeyed command next = go (command_refusal (held_of t.session) t.buffer command) refl
     where
       go : (o : Option Refusal) → command_refusal (held_of t.session) t.buffer command ≡ o → LeftIn (obeyed t command next).after
-      go (some r) e = subst (λ (x : Result). LeftIn x.after) (sym (obeyed-refused t command next r e)) left
-      go none e = subst (λ (x : Result). LeftIn x.after) (sym (obeyed-accepted t command next e)) (left_after t.buffer command left e)
+      go (Some r) e = subst (λ (x : Result). LeftIn x.after) (sym (obeyed-refused t command next r e)) left
+      go None e = subst (λ (x : Result). LeftIn x.after) (sym (obeyed-accepted t command next e)) (left_after t.buffer command left e)
 
   left-read : (stream : List ℕ) (at : ℕ) (p : Parsed) → LeftIn (read t stream at p).after
   unfolding read
@@ -45,9 +45,9 @@ module _ (t : State) (left : LeftIn t) where
   call-left stream at = go (call_refusal t stream at) refl (ℕ_discrete at (length stream))
     where
       go : (o : Option Refusal) → call_refusal t stream at ≡ o → Dec (at ≡ length stream) → LeftIn (call t stream at).after
-      go (some r) e d = subst (λ (x : Result). LeftIn x.after) (sym (call-refused t stream at r e)) left
-      go none e (yes h) = subst (λ (x : Result). LeftIn x.after) (sym (call_end t stream at e h)) left
-      go none e (no h) = subst (λ (x : Result). LeftIn x.after) (sym (call-read t stream at e h)) (left-read stream at (parse stream at))
+      go (Some r) e d = subst (λ (x : Result). LeftIn x.after) (sym (call-refused t stream at r e)) left
+      go None e (yes h) = subst (λ (x : Result). LeftIn x.after) (sym (call_end t stream at e h)) left
+      go None e (no h) = subst (λ (x : Result). LeftIn x.after) (sym (call-read t stream at e h)) (left-read stream at (parse stream at))
 
 pub call_summarises : (t : State) → Left t.session → (stream : List ℕ) (at : ℕ) → Summarises (call t stream at).after.session
 call_summarises t left stream at = left_summarises (call-left t left stream at)
@@ -95,10 +95,10 @@ pub part_left : (t : State) → Left t.session → (stream : List ℕ) (at room 
 unfolding part_in part_from
 part_left t h stream at room = refused (text_refusal stream room)
   where
-    from : (o : Option Refusal) → LeftPart (elim o [ some r ↦ part t (length stream) (refusal_line r) | none ↦ part_within (length stream) t stream at room ])
-    from (some r) = h
-    from none = within-left (length stream) t h stream at room
+    from : (o : Option Refusal) → LeftPart (elim o [ Some r ↦ part t (length stream) (refusal_line r) | None ↦ part_within (length stream) t stream at room ])
+    from (Some r) = h
+    from None = within-left (length stream) t h stream at room
 
-    refused : (o : Option Refusal) → LeftPart (elim o [ some r ↦ part t (length stream) [] | none ↦ part_from t stream at room ])
-    refused (some r) = h
-    refused none = from (call_refusal t stream at)
+    refused : (o : Option Refusal) → LeftPart (elim o [ Some r ↦ part t (length stream) [] | None ↦ part_from t stream at room ])
+    refused (Some r) = h
+    refused None = from (call_refusal t stream at)

@@ -6,7 +6,7 @@ use native.Mathlib.Omega.{arith}
 use mathlib.Core.Path.{◌≡◌, refl, sym, ap, ◌∙◌}
 use mathlib.Core.Logic.{◌≢◌, ◌↔◌, ◌⊎◌, inl, inr, ⊎_elim}
 use mathlib.Core.Bool.{Bool, true, false, not, ◌&&◌, ◌||◌, true≢false}
-use mathlib.Core.Option.{Option, none, some}
+use Rattle.std.specs.Prelude.{Option, None, Some}
 use mathlib.Core.List.{List, [], ◌∷◌}
 use lib.ListN.{length, get_or}
 use lib.Dec.{leb}
@@ -25,7 +25,6 @@ use Rattle.command.specs.Command.{Command}
 use Rattle.session_commands.specs.Commands.{Left}
 use Rattle.session_commands.specs.Obeyed.{State, state, first_length, second_length}
 use Rattle.shared_query.specs.Query.{query_refusal, shared_answer}
-use Rattle.shared_query.specs.declared.Shared.TheVariants.{Refused, Count}
 use Rattle.shared_query.proofs.Queries.{query_impossible, query_passes, query_passed, answer-refused, answer-counted}
 use Rattle.claims_streams.specs.Stream.{state_after_all}
 use Rattle.claims_streams.specs.Held.{accepted_edits, held_after}
@@ -39,6 +38,8 @@ use Rattle.claims_streams.proofs.CallWords.{or-true, true-or, no_size_yet}
 use Rattle.claims_shared.specs.Summaries.{entry, holds_pose}
 use Rattle.claims_shared.specs.Queries.{query_checks, QueryDemand1}
 use Rattle.claims_shared.proofs.Summarised.{possible_exactly, entries-count-held}
+use Rattle.std.specs.Prelude.{Err, Ok}
+use Rattle.shared_query.specs.Query.{Shared}
 
 module _ (s : Session) (sixteen : length s.masks ≡ 16) (a b : ℕ) where
   never_left : (not (possible s) ≡ true) ↔ (Left s → ⊥)
@@ -77,43 +78,43 @@ module _ (s : Session) (sixteen : length s.masks ≡ 16) (a b : ℕ) where
   both = count (λ v. in_mask (get_or s.masks a 0) v && in_mask (get_or s.masks b 0) v) 64
 
   -- The entry that a query which passes gives is the count.
-  entry-counts : query_refusal s a b ≡ none → shared_answer s a b ≡ Count both
+  entry-counts : query_refusal s a b ≡ None → shared_answer s a b ≡ Ok both
   entry-counts e =
       let passed = query_passed s a b e in
       let place : a * 16 + b ≡ 16 * a + b = omega arith in
       answer-counted s a b e
-      ∙ ap Count
+      ∙ ap Ok
       (ap (λ (i : ℕ). get_or s.shared i 0) place
       ∙ ((possible_exactly s).0 (true_T _ passed.record_possible)).1.counts a b passed.first_small passed.second_small)
 
-  count-not-refused : (n : ℕ) (q : Refusal) → Count n ≡ Refused q → ⊥
+  count-not-refused : (n : ℕ) (q : Refusal) → ◌≡◌ {A = Shared} (Ok n) (Err q) → ⊥
   count-not-refused n q e = let z : ◌≡◌ {A = ℕ} 0 1 = cc in omega arith
 
-  count_same : (n m : ℕ) → Count n ≡ Count m → n ≡ m
+  count_same : (n m : ℕ) → ◌≡◌ {A = Shared} (Ok n) (Ok m) → n ≡ m
   count_same n m e = cc
 
-  refused_same : (p q : Refusal) → Refused p ≡ Refused q → p ≡ q
+  refused_same : (p q : Refusal) → ◌≡◌ {A = Shared} (Err p) (Err q) → p ≡ q
   refused_same p q e = cc
 
   pub query_demand_1 : QueryDemand1 s a b (shared_answer s a b)
   query_demand_1 = go (query_refusal s a b) refl comes_query
     where
       go : (o : Option Refusal) → query_refusal s a b ≡ o → Comes (query_checks s a b) o → QueryDemand1 s a b (shared_answer s a b)
-      go (some q) e comes =
+      go (Some q) e comes =
           let is = answer-refused s a b q e in
           record {
             refused_exactly = λ n d. (
               λ (r, same, number, detail).
                   let one = refused_same q r (sym is ∙ same) in
                   (comes.decided n d).1 (q, refl, ap number_of one ∙ number, ap detail_of one ∙ detail),
-              λ decides. let (r, found, number, detail) = (comes.decided n d).0 decides in (r, is ∙ ap Refused (some_same q r found), number, detail),
+              λ decides. let (r, found, number, detail) = (comes.decided n d).0 decides in (r, is ∙ ap Err (some_same q r found), number, detail),
             );
             counted_exactly = λ n. (
               λ same. absurd (count-not-refused n q (sym same ∙ is)),
               λ (silent, _). absurd (some-not-none (comes.silent.0 silent)),
             );
           }
-      go none e comes =
+      go None e comes =
           let is = entry-counts e in
           record {
             refused_exactly = λ n d. (
@@ -122,16 +123,16 @@ module _ (s : Session) (sixteen : length s.masks ≡ 16) (a b : ℕ) where
             );
             counted_exactly = λ n. (
               λ same. (comes.silent.1 refl, count_same n both (sym same ∙ is)),
-              λ (silent, same). is ∙ ap Count (sym same),
+              λ (silent, same). is ∙ ap Ok (sym same),
             );
           }
 
 -- "A session record handed in with a false entry is 5", here too.
 pub false_entry-asked : (s : Session) (a b x y : ℕ) → x < 16 → y < 16
-    → entry s x y ≢ count (λ v. in_mask (get_or s.masks x 0) v && in_mask (get_or s.masks y 0) v) 64 → shared_answer s a b ≡ Refused WrongLength
+    → entry s x y ≢ count (λ v. in_mask (get_or s.masks x 0) v && in_mask (get_or s.masks y 0) v) 64 → shared_answer s a b ≡ Err WrongLength
 false_entry-asked s a b x y h k false-entry = go (possible s) refl
   where
-    go : (p : Bool) → possible s ≡ p → shared_answer s a b ≡ Refused WrongLength
+    go : (p : Bool) → possible s ≡ p → shared_answer s a b ≡ Err WrongLength
     go true e = absurd (false-entry (((possible_exactly s).0 (true_T _ e)).1.counts x y h k))
     go false e = answer-refused s a b WrongLength (query_impossible s a b e)
 
@@ -146,7 +147,7 @@ module _ (buffer first : List Float) (second : List ℕ) (buffer_fits : length b
 
   pub asked-after : (a b : ℕ) → a < last.cameras → b < last.cameras
       → shared_answer last a b
-      ≡ Count (count (λ v. holds_pose (held_after (accepted_edits start commands) v a) && holds_pose (held_after (accepted_edits start commands) v b)) 64)
+      ≡ Ok (count (λ v. holds_pose (held_after (accepted_edits start commands) v a) && holds_pose (held_after (accepted_edits start commands) v b)) 64)
   asked-after a b h k =
       let usable = usable_after_all commands start (usable_start buffer first second buffer_fits first_fits second_fits) in
       let limits = within_limits last usable.record_possible in
@@ -155,6 +156,6 @@ module _ (buffer first : List Float) (second : List ℕ) (buffer_fits : length b
       let inside : leb last.cameras a || leb last.cameras b ≡ false = rw (lt-leb last.cameras a h) (lt-leb last.cameras b k) in
       let place : a * 16 + b ≡ 16 * a + b = omega arith in
       answer-counted last a b (query_passes last a b (T_true _ usable.record_possible) views inside)
-      ∙ ap Count
+      ∙ ap Ok
       (ap (λ (i : ℕ). get_or last.shared i 0) place
       ∙ entries-count-held buffer first second buffer_fits first_fits second_fits commands a b (omega (arith, limits.1)) (omega (arith, limits.1)))

@@ -7,7 +7,7 @@ use native.Mathlib.Omega.{arith}
 use mathlib.Core.Path.{◌≡◌, refl, sym, ap, ap₂, ◌∙◌}
 use mathlib.Core.Logic.{◌≢◌, ◌↔◌, ◌⊎◌, ⊎_elim}
 use mathlib.Core.Bool.{Bool, true, false, ◌&&◌}
-use mathlib.Core.Option.{Option, none, some}
+use Rattle.std.specs.Prelude.{Option, None, Some}
 use mathlib.Core.List.{List}
 use lib.ListN.{length, get_or}
 use lib.Dec.{T}
@@ -138,8 +138,8 @@ module _ (buffer first : List Float) (second : List ℕ) (buffer_fits : length b
 
   marked : (masks : List ℕ) (floats : List Float) (v c : ℕ) (o : Option Pose) → HoldsCell masks floats v c o → in_mask (get_or masks c 0) v ≡ holds_pose o
   unfolding holds_pose
-  marked masks floats v c none h = h
-  marked masks floats v c (some p) h = h.0
+  marked masks floats v c None h = h
+  marked masks floats v c (Some p) h = h.0
 
   pub entries-count-held : (a b : ℕ) → a < 16 → b < 16 → entry last.session a b ≡ count (λ v. holds_pose (held v a) && holds_pose (held v b)) 64
   entries-count-held a b h k =

@@ -3,7 +3,7 @@
 -- commands themselves do what the papers say is said by `CallDemand1` and by rows, since both sessions share what a command refuses and leaves of what is held.
 -- Rests on the commands of `Commands`, by what they hold.
 use Rattle.std.specs.Prelude.{ℕ, zero, suc, ◌+◌, true, false, not, ◌||◌, cond, List, [], ◌∷◌, ◌++◌, length, eqb, ltb, Float}
-use Rattle.std.proofs.Math.Option.{Option, none, some}
+use Rattle.std.specs.Prelude.{Option, None, Some}
 use Rattle.refusal.specs.Table.{refuse_if, first_of}
 use Rattle.refusal.specs.declared.Refusal.{Refusal}
 use Rattle.refusal.specs.declared.Refusal.TheVariants.{WrongLength, UnknownCommand, Truncated, TooLong}
@@ -14,10 +14,11 @@ use Rattle.session_commands.specs.Solve.{first_after_solve, second_after_solve}
 use Rattle.session_commands.specs.Commands.{command_refusal, edit_held, buffer_after}
 use Rattle.session_commands.specs.Obeyed.{first_length, second_length, State, Result, reply_to}
 use Rattle.session.specs.Call.{max_stream}
-use Rattle.session_commands.specs.declared.Reply.{Reply}
-use Rattle.session_commands.specs.declared.Reply.TheVariants.{End, Refused}
+use Rattle.session_commands.specs.Reply.{Reply}
 use Rattle.listing.specs.Listing.{reply_text}
 use Rattle.claims_streams.specs.Stream.{Answer, ends_stream}
+use Rattle.std.specs.Prelude.{Err, Ok}
+use Rattle.session_commands.specs.declared.Done.TheVariants.{End}
 
 -- ---- what a call sees and leaves, without the summary
 
@@ -70,17 +71,17 @@ plain_after t solve =
 unfoldable pub plain_read : PlainState → List ℕ → ℕ → Parsed → PlainResult
 plain_read t stream at (complete command width) =
     elim (command_refusal t.held t.buffer command) [
-      | some r ↦ plain_result (Refused r) t (at + width)
-      | none ↦ plain_result (reply_to command) (plain_after t command) (at + width)
+      | Some r ↦ plain_result (Err r) t (at + width)
+      | None ↦ plain_result (reply_to command) (plain_after t command) (at + width)
     ]
-plain_read t stream at broken = plain_result (Refused (Truncated at)) t (length stream)
-plain_read t stream at (unknown byte) = plain_result (Refused (UnknownCommand byte)) t (length stream)
+plain_read t stream at broken = plain_result (Err (Truncated at)) t (length stream)
+plain_read t stream at (unknown byte) = plain_result (Err (UnknownCommand byte)) t (length stream)
 
 unfoldable pub plain_call : PlainState → List ℕ → ℕ → PlainResult
 plain_call t stream at =
     elim (plain_refusal t stream at) [
-      | some r ↦ plain_result (Refused r) t (length stream)
-      | none ↦ cond (eqb at (length stream)) (plain_result End t at) (plain_read t stream at (parse stream at))
+      | Some r ↦ plain_result (Err r) t (length stream)
+      | None ↦ cond (eqb at (length stream)) (plain_result (Ok End) t at) (plain_read t stream at (parse stream at))
     ]
 
 -- ---- a whole stream, call after call, and the lines that it prints

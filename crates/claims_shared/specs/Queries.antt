@@ -8,9 +8,9 @@ use Rattle.lists.specs.Masks.{in_mask}
 use Rattle.claims_direct.specs.Deciding.{Check, naming, plain, Decides, AllSilent}
 use Rattle.session_commands.specs.Commands.{Left}
 use Rattle.session_record.specs.declared.Session.{Session}
-use Rattle.shared_query.specs.declared.Shared.{Shared}
-use Rattle.shared_query.specs.declared.Shared.TheVariants.{Refused, Count}
+use Rattle.shared_query.specs.Query.{Shared}
 use Rattle.claims_streams.specs.CallDemand1.{NoSizeYet}
+use Rattle.std.specs.Prelude.{Err, Ok}
 
 module _ (s : Session) (first second : ℕ) where
   -- 5: "a session record handed in has sizes, a reference or mask bits that no accepted commands could leave", or "a false entry". 21: "before an accepted
@@ -24,7 +24,7 @@ module _ (s : Session) (first second : ℕ) where
 
   -- What the demand asks of the query's answer.
   pub record QueryDemand1 (answer : Shared) : Type 0 where
-    pub refused_exactly : (n d : ℕ) → ((q : Refusal) × (answer ≡ Refused q) × (number_of q ≡ n) × (detail_of q ≡ d)) ↔ Decides query_checks n d
+    pub refused_exactly : (n d : ℕ) → ((q : Refusal) × (answer ≡ Err q) × (number_of q ≡ n) × (detail_of q ≡ d)) ↔ Decides query_checks n d
     -- "gives the entry for two camera bytes": how many views hold poses of both.
-    pub counted_exactly : (n : ℕ) → (answer ≡ Count n)
+    pub counted_exactly : (n : ℕ) → (answer ≡ Ok n)
         ↔ (AllSilent query_checks × (n ≡ count (λ v. in_mask (get_or s.masks first 0) v && in_mask (get_or s.masks second 0) v) 64))

@@ -1,7 +1,7 @@
 -- What the entries of a record's summary are, in the terms of document 01's chains: the views shared by the poses held, and the ones of both masks. Rests
 -- on the grid that a session holds and on the shared counts of `chains`.
 use Rattle.std.specs.Prelude.{ℕ, ◌+◌, ◌*◌, ◌≤◌, ◌<◌, ◌≡◌, ◌⊎◌, Bool, true, false, List, get_or, Float}
-use Rattle.std.proofs.Math.Option.{Option, none, some}
+use Rattle.std.specs.Prelude.{Option, None, Some}
 use Rattle.std.specs.Int.Bits.{bit_and}
 use Rattle.std.specs.Int.Count.{ones}
 use Rattle.arithmetic.specs.declared.pose.Pose.{Pose}
@@ -17,8 +17,8 @@ entry s a b = get_or s.shared (16 * a + b) 0
 
 -- Whether a cell that holds this holds a pose.
 unfoldable pub holds_pose : Option Pose → Bool
-holds_pose none = false
-holds_pose (some p) = true
+holds_pose None = false
+holds_pose (Some p) = true
 
 pub record Summarises (s : Session) : Type 0 where
   -- "Two different cameras share each view that holds poses of both": the count that links and parents go by, on the grid that Solve sees.

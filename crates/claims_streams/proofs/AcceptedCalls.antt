@@ -4,7 +4,7 @@ use Prim.Native.Nat.{ℕ, ◌+◌, ◌≤◌, ◌<◌}
 use native.Mathlib.Omega.{arith}
 use mathlib.Core.Path.{◌≡◌, refl, ◌∙◌}
 use mathlib.Core.Logic.{⊎_elim}
-use mathlib.Core.Option.{none}
+use Rattle.std.specs.Prelude.{None}
 use mathlib.Core.List.{List}
 use lib.ListN.{length, length-set}
 use Rattle.placing.specs.Rig.{rig_grid}
@@ -47,7 +47,7 @@ module _ (t : State) (stream : List ℕ) (at : ℕ) where
 
   module _ (u : Usable t) where
     pub pose-leaves : length t.session.masks ≡ 16
-        → command_refusal (held_of t.session) t.buffer (edit (place (operand stream at 1) (operand stream at 2) (offered_pose stream (at + 3)))) ≡ none
+        → command_refusal (held_of t.session) t.buffer (edit (place (operand stream at 1) (operand stream at 2) (offered_pose stream (at + 3)))) ≡ None
         → PoseLeaves t stream at (state_after t (edit (place (operand stream at 1) (operand stream at 2) (offered_pose stream (at + 3)))))
     unfolding command_refusal state_after session_after buffer_after first_after second_after edit_session edit_buffer held_after_size held_after_pose buffer_after_pose
     pose-leaves sixteen e =
@@ -75,7 +75,7 @@ module _ (t : State) (stream : List ℕ) (at : ℕ) where
         }
 
     pub withdraw-leaves : length t.session.masks ≡ 16
-        → command_refusal (held_of t.session) t.buffer (edit (withdraw (operand stream at 1) (operand stream at 2))) ≡ none
+        → command_refusal (held_of t.session) t.buffer (edit (withdraw (operand stream at 1) (operand stream at 2))) ≡ None
         → WithdrawLeaves t stream at (state_after t (edit (withdraw (operand stream at 1) (operand stream at 2))))
     unfolding command_refusal state_after session_after buffer_after first_after second_after edit_session edit_buffer held_after_withdraw
     withdraw-leaves sixteen e =
@@ -97,7 +97,7 @@ module _ (t : State) (stream : List ℕ) (at : ℕ) where
           same_second = refl;
         }
 
-pub solve-leaves : (t : State) → Usable t → command_refusal (held_of t.session) t.buffer solve ≡ none → SolveLeaves t (state_after t solve)
+pub solve-leaves : (t : State) → Usable t → command_refusal (held_of t.session) t.buffer solve ≡ None → SolveLeaves t (state_after t solve)
 unfolding state_after session_after buffer_after first_after second_after first_after_solve second_after_solve rig_grid
 solve-leaves t u e =
     let limits = has_sizes t.session (sound_of_possible t.session u.record_possible) (solve-accepted t.session t.buffer e).0 in

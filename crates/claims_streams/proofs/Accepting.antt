@@ -3,7 +3,7 @@ use Prim.Native.Nat.{◌<◌}
 use native.Mathlib.Omega.{arith}
 use mathlib.Core.Path.{◌≡◌, refl, sym, ◌∙◌}
 use mathlib.Core.Bool.{Bool, false, not}
-use mathlib.Core.Option.{Option, none}
+use Rattle.std.specs.Prelude.{Option, None}
 use mathlib.Core.List.{List, [], ◌∷◌}
 use lib.Ieee.{Float}
 use borrow.Author.Tests.{eqb-false, not-true, not-false}
@@ -19,11 +19,11 @@ use Rattle.session_record.specs.declared.Session.{Session}
 
 -- ---- checks that pass
 
-pub refuse_if_false : (b : Bool) (r : Refusal) → b ≡ false → refuse_if b r ≡ none
+pub refuse_if_false : (b : Bool) (r : Refusal) → b ≡ false → refuse_if b r ≡ None
 unfolding refuse_if
 refuse_if_false b r e = rw e
 
-pub first_of_all_none : (checks : List (Option Refusal)) → AllNone checks → first_of checks ≡ none
+pub first_of_all_none : (checks : List (Option Refusal)) → AllNone checks → first_of checks ≡ None
 unfolding first_of
 first_of_all_none [] h = refl
 first_of_all_none (check ∷ later) (e, h) = rw e (first_of_all_none later h)
@@ -35,7 +35,7 @@ module _ (s : Session) (buffer : List Float) where
   unfolding command_refusal
   solve_checks = refl
 
-  pub solve-accepted : command_refusal (held_of s) buffer solve ≡ none → (0 < s.views) × (grid_refusal (session_grid (held_of s) buffer) ≡ none)
+  pub solve-accepted : command_refusal (held_of s) buffer solve ≡ None → (0 < s.views) × (grid_refusal (session_grid (held_of s) buffer) ≡ None)
   solve-accepted e =
       let (no_size, (refusal, _)) = first_of_none_all _ (sym solve_checks ∙ e) in
       let different = eqb-false s.views 0 (not-true _ (not-false _ (refuse_if-none _ _ no_size))) in

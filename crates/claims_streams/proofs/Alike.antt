@@ -5,7 +5,7 @@ use native.Mathlib.Decide.{ℕ_discrete, dec_lt}
 use native.Mathlib.Omega.{arith}
 use mathlib.Core.Path.{◌≡◌, refl, sym, ap, ap₂, ◌∙◌}
 use mathlib.Core.Bool.{Bool, true, false, not, cond, true≢false}
-use mathlib.Core.Option.{Option, none, some}
+use Rattle.std.specs.Prelude.{Option, None, Some}
 use mathlib.Core.List.{List, [], ◌∷◌, ◌++◌}
 use lib.ListN.{length, get_or, get_or-eq_default}
 use lib.Dec.{ltb}
@@ -21,8 +21,7 @@ use Rattle.lists.proofs.Tabulated.{tabulate_agree}
 use Rattle.placing.specs.Grid.{Grid}
 use Rattle.placing.specs.Estimate.{transforms, chains}
 use Rattle.placing.specs.Rig.{masked_cell, rig_cell, rig_grid}
-use Rattle.placing.specs.declared.grid.Cell.{Cell}
-use Rattle.placing.specs.declared.grid.Cell.TheVariants.{Empty, Held}
+use Rattle.placing.specs.Grid.{Cell}
 use Rattle.extrinsics.specs.Outcome.{answered, grid_refusal}
 use Rattle.extrinsics.proofs.MaskUnion.{in_mask-zero}
 use Rattle.command.specs.Command.{Command, edit, solve, Parsed, complete, broken, unknown, parse}
@@ -31,8 +30,7 @@ use Rattle.session_commands.specs.Commands.{edit_refusal, edit_session, command_
 use Rattle.session_commands.specs.Solve.{first_after_solve, second_after_solve}
 use Rattle.session_commands.specs.Obeyed.{State, result, first_after, second_after, state_after}
 use Rattle.session.specs.Call.{max_stream, unusable, call_refusal, read, call}
-use Rattle.session_commands.specs.declared.Reply.{Reply}
-use Rattle.session_commands.specs.declared.Reply.TheVariants.{End, Refused}
+use Rattle.session_commands.specs.Reply.{Reply}
 use Rattle.session.proofs.Calling.{call-refused, call_end, call-read}
 use Rattle.session_record.specs.declared.Session.{Session}
 use Rattle.claims_streams.specs.Stream.{Contents, contents_of, Answer, answer_to, answers, state_after_all, stream_refusal, answers_of, meaning, calls, Usable}
@@ -45,11 +43,13 @@ use Rattle.claims_streams.proofs.AlikeEdits.{held-alike, differences_old}
 use Rattle.claims_streams.proofs.Usable.{answer_to-accepted, answer_to-refused, buffer_kept, usable_answer}
 use Rattle.claims_streams.proofs.Streams.{usable_of_passes, obeyed-answer_to, meaning-refused, meaning_passes, calls_give_meaning}
 use Rattle.claims_streams.proofs.CallWords.{usable_of_call}
+use Rattle.std.specs.Prelude.{Err, Ok}
+use Rattle.session_commands.specs.declared.Done.TheVariants.{End}
 
 -- ---- the grid
 
-held-or-empty : (bit : Bool) (p q : Pose) → (bit ≡ true → p ≡ q) → cond bit (Held p) Empty ≡ cond bit (Held q) Empty
-held-or-empty true p q same = ap Held (same refl)
+held-or-empty : (bit : Bool) (p q : Pose) → (bit ≡ true → p ≡ q) → cond bit (Some p) None ≡ cond bit (Some q) None
+held-or-empty true p q same = ap Some (same refl)
 held-or-empty false p q same = refl
 
 module _ (s : Session) (sixteen : length s.masks ≡ max_cameras) (b b' : List Float) (same : SameHeld s.masks b b') where
@@ -111,7 +111,7 @@ module _ (t t' : State) (same : Alike t t') where
 
   module _ (u : Usable t) where
     -- What an accepted command leaves of both.
-    accepted-alike : (command : Command) → command_refusal (held_of t.session) t.buffer command ≡ none
+    accepted-alike : (command : Command) → command_refusal (held_of t.session) t.buffer command ≡ None
         → AlikeSince t.buffer t'.buffer (state_after t command) (state_after t' command)
     unfolding command_refusal state_after session_after buffer_after first_after second_after first_after_solve second_after_solve
     accepted-alike (edit change) e =
@@ -135,8 +135,8 @@ module _ (t t' : State) (same : Alike t t') where
           alike = record {
             sixteen = same.sixteen;
             same_session = same.same_session;
-            same_first = ap₂ (λ (g : Grid) (l : List Float). answered none (transforms g) l) same_grid same.same_first;
-            same_second = ap₂ (λ (g : Grid) (l : List ℕ). answered none (chains g) l) same_grid same.same_second;
+            same_first = ap₂ (λ (g : Grid) (l : List Float). answered None (transforms g) l) same_grid same.same_first;
+            same_second = ap₂ (λ (g : Grid) (l : List ℕ). answered None (chains g) l) same_grid same.same_second;
             same_length = same.same_length;
             same_held = same.same_held;
           };
@@ -147,16 +147,16 @@ module _ (t t' : State) (same : Alike t t') where
     same_reply command = go (command_refusal (held_of t.session) t.buffer command) refl
       where
         go : (o : Option Refusal) → command_refusal (held_of t.session) t.buffer command ≡ o → (answer_to t command).reply ≡ (answer_to t' command).reply
-        go none e = cc (answer_to-accepted t command e, answer_to-accepted t' command (also command e))
-        go (some r) e = cc (answer_to-refused t command r e, answer_to-refused t' command r (also command e))
+        go None e = cc (answer_to-accepted t command e, answer_to-accepted t' command (also command e))
+        go (Some r) e = cc (answer_to-refused t command r e, answer_to-refused t' command r (also command e))
 
     after-alike : (command : Command) → AlikeSince t.buffer t'.buffer (answer_to t command).after (answer_to t' command).after
     after-alike command = go (command_refusal (held_of t.session) t.buffer command) refl
       where
         go : (o : Option Refusal) → command_refusal (held_of t.session) t.buffer command ≡ o
             → AlikeSince t.buffer t'.buffer (answer_to t command).after (answer_to t' command).after
-        go none e = rw (answer_to-accepted t command e, answer_to-accepted t' command (also command e)) (accepted-alike command e)
-        go (some r) e = rw (answer_to-refused t command r e, answer_to-refused t' command r (also command e)) (since_now same)
+        go None e = rw (answer_to-accepted t command e, answer_to-accepted t' command (also command e)) (accepted-alike command e)
+        go (Some r) e = rw (answer_to-refused t command r e, answer_to-refused t' command r (also command e)) (since_now same)
 
 -- ---- commands one after the other
 
@@ -245,26 +245,26 @@ module _ (t t' : State) (same : Alike t t') where
             same_next = refl;
             alike_after = after-alike t t' same u command;
           })
-      reads u broken = unchanged (Refused (Truncated at)) (length stream)
-      reads u (unknown byte) = unchanged (Refused (UnknownCommand byte)) (length stream)
+      reads u broken = unchanged (Err (Truncated at)) (length stream)
+      reads u (unknown byte) = unchanged (Err (UnknownCommand byte)) (length stream)
 
-      passes : call_refusal t stream at ≡ none → Dec (at ≡ length stream) → CallsAlike t.buffer t'.buffer (call t stream at) (call t' stream at)
-      passes e (yes h) = rw (call_end t stream at e h, call_end t' stream at (too e) h) (unchanged End at)
+      passes : call_refusal t stream at ≡ None → Dec (at ≡ length stream) → CallsAlike t.buffer t'.buffer (call t stream at) (call t' stream at)
+      passes e (yes h) = rw (call_end t stream at e h, call_end t' stream at (too e) h) (unchanged (Ok End) at)
       passes e (no h) = rw (call-read t stream at e h, call-read t' stream at (too e) h) (reads (usable_of_call t stream at e).0 (parse stream at))
 
       go : (o : Option Refusal) → call_refusal t stream at ≡ o → CallsAlike t.buffer t'.buffer (call t stream at) (call t' stream at)
-      go (some r) e = rw (call-refused t stream at r e, call-refused t' stream at r (too e)) (unchanged (Refused r) (length stream))
-      go none e = passes e (ℕ_discrete at (length stream))
+      go (Some r) e = rw (call-refused t stream at r e, call-refused t' stream at r (too e)) (unchanged (Err r) (length stream))
+      go None e = passes e (ℕ_discrete at (length stream))
 
   -- A whole stream, whatever the states are.
   pub meaning-alike : (stream : List ℕ) → AnswersAlike t.buffer t'.buffer (meaning t stream) (meaning t' stream)
   meaning-alike stream = go (stream_refusal t stream) refl
     where
       go : (o : Option Refusal) → stream_refusal t stream ≡ o → AnswersAlike t.buffer t'.buffer (meaning t stream) (meaning t' stream)
-      go (some r) e =
+      go (Some r) e =
           rw (meaning-refused t stream r e, meaning-refused t' stream r (sym (stream_refusal-alike stream) ∙ e))
           (one_answer refl (since_now same) no_answers)
-      go none e =
+      go None e =
           rw (meaning_passes t stream e, meaning_passes t' stream (sym (stream_refusal-alike stream) ∙ e))
           (answers_of-alike (usable_of_passes t stream e).1 (contents_of stream))
 

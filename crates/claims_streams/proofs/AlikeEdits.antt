@@ -4,7 +4,7 @@ use Prim.Native.Nat.{ℕ, ◌+◌, ◌/◌, ◌%◌, ◌<◌}
 use native.Mathlib.Omega.{arith}
 use mathlib.Core.Path.{◌≡◌, refl, sym, subst, ◌∙◌}
 use mathlib.Core.Bool.{Bool, true, false, true≢false}
-use mathlib.Core.Option.{Option, none, some}
+use Rattle.std.specs.Prelude.{Option, None, Some}
 use mathlib.Core.List.{List}
 use lib.ListN.{length, get_or}
 use lib.Ieee.{Float, nan}
@@ -32,20 +32,20 @@ module _ (masks : List ℕ) (b b' : List Float) (v c : ℕ) where
   -- Where both hold the same, and the bit is set, there are the same seven floats.
   same_floats : (o : Option Pose) → BothHold o → in_mask (get_or masks c 0) v ≡ true
       → (k : ℕ) → k < 7 → get_or b (cell_start v c + k) nan ≡ get_or b' (cell_start v c + k) nan
-  same_floats none (clear, _) bit = absurd (true≢false (sym bit ∙ clear))
-  same_floats (some p) ((_, here), (_, there)) bit = floats_agree b b' (cell_start v c) (here ∙ sym there)
+  same_floats None (clear, _) bit = absurd (true≢false (sym bit ∙ clear))
+  same_floats (Some p) ((_, here), (_, there)) bit = floats_agree b b' (cell_start v c) (here ∙ sym there)
 
   -- Buffers with the same floats where cells are held do hold the same.
   both_hold : c < max_cameras → SameHeld masks b b' → (o : Option Pose) × BothHold o
   both_hold h same = go (in_mask (get_or masks c 0) v) refl
     where
       go : (bit : Bool) → in_mask (get_or masks c 0) v ≡ bit → (o : Option Pose) × BothHold o
-      go true e = (some (pose_at b (cell_start v c)), ((e, refl), (e, sym (pose_at_agree b b' (cell_start v c) (same v c h e)))))
-      go false e = (none, (e, e))
+      go true e = (Some (pose_at b (cell_start v c)), ((e, refl), (e, sym (pose_at_agree b b' (cell_start v c) (same v c h e)))))
+      go false e = (None, (e, e))
 
 -- ---- one accepted edit
 
-module _ (change : Edit) (s : Session) (accepted : edit_refusal (held_of s) change ≡ none) (sound : Sound s) (sixteen : length s.masks ≡ max_cameras)
+module _ (change : Edit) (s : Session) (accepted : edit_refusal (held_of s) change ≡ None) (sound : Sound s) (sixteen : length s.masks ≡ max_cameras)
     (b b' : List Float) (fits : length b ≡ buffer_length) (fits' : length b' ≡ buffer_length) where
   abbrev masks_after : List ℕ
   masks_after = (edit_session s change).masks
@@ -72,10 +72,10 @@ module _ (change : Edit) (s : Session) (accepted : edit_refusal (held_of s) chan
       → (k : ℕ) → k < 7 → get_or after (cell_start v c + k) nan ≡ get_or after' (cell_start v c + k) nan
   written-alike v c h names =
       let clear = (edit_law change).into_empty s accepted v c names in
-      let (p, now) = (edit_law change).holds_written v c names none in
-      let both : BothHold masks_after after after' v c (some p) =
-      subst (BothHold masks_after after after' v c) now (both_after v c h none (clear, clear)) in
-      same_floats masks_after after after' v c (some p) both both.0.0
+      let (p, now) = (edit_law change).holds_written v c names None in
+      let both : BothHold masks_after after after' v c (Some p) =
+      subst (BothHold masks_after after after' v c) now (both_after v c h None (clear, clear)) in
+      same_floats masks_after after after' v c (Some p) both both.0.0
 
   cell_differences_old : (v c : ℕ) → c < max_cameras → (k : ℕ) → k < 7 → get_or b (cell_start v c + k) nan ≡ get_or b' (cell_start v c + k) nan
       → get_or after (cell_start v c + k) nan ≡ get_or after' (cell_start v c + k) nan

@@ -8,7 +8,7 @@ use native.Mathlib.Omega.{arith}
 use mathlib.Core.Path.{◌≡◌, refl, sym, ap, subst, ◌∙◌}
 use mathlib.Core.Logic.{◌⊎◌, inl, inr, ⊎_elim}
 use mathlib.Core.Bool.{false}
-use mathlib.Core.Option.{Option, none, some}
+use Rattle.std.specs.Prelude.{Option, None, Some}
 use mathlib.Core.List.{List, ◌++◌}
 use lib.ListN.{length, get_or}
 use lib.Ieee.{Float}
@@ -25,8 +25,7 @@ use Rattle.session_commands.specs.Commands.{command_refusal, Left}
 use Rattle.session_commands.specs.Obeyed.{State, state, result, reply_to, state_after, obeyed}
 use Rattle.session.specs.Call.{call_refusal, read, call, Called}
 use Rattle.session.specs.Inner.Steps.{result_of}
-use Rattle.session_commands.specs.declared.Reply.{Reply}
-use Rattle.session_commands.specs.declared.Reply.TheVariants.{End, Accepted, Solved, Refused}
+use Rattle.session_commands.specs.Reply.{Reply}
 use Rattle.session.specs.declared.Step.{Step}
 use Rattle.session_commands.proofs.Obeying.{obeyed-refused, obeyed-accepted}
 use Rattle.session.proofs.Calling.{call-refused, call_end, call-read}
@@ -38,34 +37,36 @@ use Rattle.claims_streams.proofs.DecidingParts.{Comes, some_same, some-not-none,
 use Rattle.claims_streams.proofs.Records.{possible-left}
 use Rattle.claims_streams.proofs.Streams.{command_goes_on}
 use Rattle.claims_streams.proofs.Usable.{answer_to-refused}
+use Rattle.std.specs.Prelude.{Err, Ok}
+use Rattle.session_commands.specs.declared.Done.TheVariants.{Accepted, End, Solved}
 
 -- ---- replies
 
 abbrev kind : Reply → ℕ
-kind End = 0
-kind Accepted = 1
-kind Solved = 2
-kind (Refused q) = 3
+kind (Ok End) = 0
+kind (Ok Accepted) = 1
+kind (Ok Solved) = 2
+kind (Err q) = 3
 
 other_kind : (r r' : Reply) → (kind r ≡ kind r' → ⊥) → r ≡ r' → ⊥
 other_kind r r' differ e = differ (ap kind e)
 
-refused_same : (p q : Refusal) → Refused p ≡ Refused q → p ≡ q
+refused_same : (p q : Refusal) → ◌≡◌ {A = Reply} (Err p) (Err q) → p ≡ q
 refused_same p q e = cc
 
 -- The numbers that end a stream.
 abbrev Ending : ℕ → Type 0
 Ending n = (n ≡ 5) ⊎ ((n ≡ 10) ⊎ ((n ≡ 11) ⊎ (n ≡ 13)))
 
-ending-number : (q : Refusal) → EndsTheStream (Refused q) → Ending (number_of q)
-ending-number q (inl e) = absurd (other_kind (Refused q) End (omega arith) e)
+ending-number : (q : Refusal) → EndsTheStream (Err q) → Ending (number_of q)
+ending-number q (inl e) = absurd (other_kind (Err q) (Ok End) (omega arith) e)
 ending-number q (inr (n, d, (p, same, number, detail), ending)) = subst Ending (sym (ap number_of (refused_same q p same) ∙ number)) ending
 
-number-ends : (q : Refusal) → Ending (number_of q) → EndsTheStream (Refused q)
+number-ends : (q : Refusal) → Ending (number_of q) → EndsTheStream (Err q)
 number-ends q ending = inr (number_of q, detail_of q, (q, refl, refl, refl), ending)
 
 -- A refusal after which the stream goes on has no such number.
-goes_on_number : (q : Refusal) → ends_stream (Refused q) ≡ false → Ending (number_of q) → ⊥
+goes_on_number : (q : Refusal) → ends_stream (Err q) ≡ false → Ending (number_of q) → ⊥
 unfolding ends_stream
 goes_on_number q e ending =
     let (e₃, not-13) = or-false _ _ e in
@@ -93,31 +94,31 @@ module _ (t : State) (stream : List ℕ) (at : ℕ) where
   abbrev NextCommand : ℕ → Type 0
   NextCommand next = (width : ℕ) × BeginsOfWidth stream at width × (at + width ≤ length stream) × (next ≡ at + width)
 
-  demand_refused : (q : Refusal) (next : ℕ) → Comes checks (some q) → (Ending (number_of q) → next ≡ length stream)
-      → ((Ending (number_of q) → ⊥) → NextCommand next) → CallDemand1 t stream at (result (Refused q) t next)
+  demand_refused : (q : Refusal) (next : ℕ) → Comes checks (Some q) → (Ending (number_of q) → next ≡ length stream)
+      → ((Ending (number_of q) → ⊥) → NextCommand next) → CallDemand1 t stream at (result (Err q) t next)
   demand_refused q next comes at-end goes_on =
       record {
         refused_exactly = λ n d. (
-          λ (p, same, number, detail). (comes.decided n d).1 (p, ap some (refused_same q p same), number, detail),
-          λ decides. let (p, same, number, detail) = (comes.decided n d).0 decides in (p, ap Refused (some_same q p same), number, detail),
+          λ (p, same, number, detail). (comes.decided n d).1 (p, ap Some (refused_same q p same), number, detail),
+          λ decides. let (p, same, number, detail) = (comes.decided n d).0 decides in (p, ap Err (some_same q p same), number, detail),
         );
-        end_exactly = (λ e. absurd (other_kind (Refused q) End (omega arith) e), λ w. absurd (some-not-none (comes.silent.0 w.0)));
-        accepted_exactly = (λ e. absurd (other_kind (Refused q) Accepted (omega arith) e), λ w. absurd (some-not-none (comes.silent.0 w.0)));
-        solved_exactly = (λ e. absurd (other_kind (Refused q) Solved (omega arith) e), λ w. absurd (some-not-none (comes.silent.0 w.0)));
+        end_exactly = (λ e. absurd (other_kind (Err q) (Ok End) (omega arith) e), λ w. absurd (some-not-none (comes.silent.0 w.0)));
+        accepted_exactly = (λ e. absurd (other_kind (Err q) (Ok Accepted) (omega arith) e), λ w. absurd (some-not-none (comes.silent.0 w.0)));
+        solved_exactly = (λ e. absurd (other_kind (Err q) (Ok Solved) (omega arith) e), λ w. absurd (some-not-none (comes.silent.0 w.0)));
         refusal_changes_nothing = λ n d refused. refl;
         end_changes_nothing = λ e. refl;
-        accepted_size = λ e. absurd (other_kind (Refused q) Accepted (omega arith) e);
-        accepted_pose = λ e. absurd (other_kind (Refused q) Accepted (omega arith) e);
-        accepted_withdraw = λ e. absurd (other_kind (Refused q) Accepted (omega arith) e);
-        solved_leaves = λ e. absurd (other_kind (Refused q) Solved (omega arith) e);
+        accepted_size = λ e. absurd (other_kind (Err q) (Ok Accepted) (omega arith) e);
+        accepted_pose = λ e. absurd (other_kind (Err q) (Ok Accepted) (omega arith) e);
+        accepted_withdraw = λ e. absurd (other_kind (Err q) (Ok Accepted) (omega arith) e);
+        solved_leaves = λ e. absurd (other_kind (Err q) (Ok Solved) (omega arith) e);
         next_at_end = λ ends. at-end (ending-number q ends);
         next_command_is = λ on. goes_on (λ ending. on (number-ends q ending));
       }
 
   -- No refusal is found, and the reply is none.
-  module _ (comes : Comes checks none) where
+  module _ (comes : Comes checks None) where
     none-refused : (r : Reply) → (kind r ≡ 3 → ⊥) → (n d : ℕ) → RefusedWith r n d → ⊥
-    none-refused r differ n d (q, same, _, _) = other_kind r (Refused q) differ same
+    none-refused r differ n d (q, same, _, _) = other_kind r (Err q) differ same
 
     none_decided : (n d : ℕ) → Decides checks n d → ⊥
     none_decided n d decides = some-not-none (sym ((comes.decided n d).0 decides).1)
@@ -125,22 +126,22 @@ module _ (t : State) (stream : List ℕ) (at : ℕ) where
     all_silent : AllSilent checks
     all_silent = comes.silent.1 refl
 
-    demand_end : at ≡ length stream → CallDemand1 t stream at (result End t at)
+    demand_end : at ≡ length stream → CallDemand1 t stream at (result (Ok End) t at)
     demand_end here =
         record {
-          refused_exactly = λ n d. (λ refused. absurd (none-refused End (omega arith) n d refused), λ decides. absurd (none_decided n d decides));
+          refused_exactly = λ n d. (λ refused. absurd (none-refused (Ok End) (omega arith) n d refused), λ decides. absurd (none_decided n d decides));
           end_exactly = (λ e. (all_silent, here), λ w. refl);
           accepted_exactly = (
-            λ e. absurd (other_kind End Accepted (omega arith) e),
+            λ e. absurd (other_kind (Ok End) (Ok Accepted) (omega arith) e),
             λ w. absurd (past (changes_begin stream at w.1).0),
           );
-          solved_exactly = (λ e. absurd (other_kind End Solved (omega arith) e), λ w. absurd (past w.1.0));
+          solved_exactly = (λ e. absurd (other_kind (Ok End) (Ok Solved) (omega arith) e), λ w. absurd (past w.1.0));
           refusal_changes_nothing = λ n d refused. refl;
           end_changes_nothing = λ e. refl;
-          accepted_size = λ e. absurd (other_kind End Accepted (omega arith) e);
-          accepted_pose = λ e. absurd (other_kind End Accepted (omega arith) e);
-          accepted_withdraw = λ e. absurd (other_kind End Accepted (omega arith) e);
-          solved_leaves = λ e. absurd (other_kind End Solved (omega arith) e);
+          accepted_size = λ e. absurd (other_kind (Ok End) (Ok Accepted) (omega arith) e);
+          accepted_pose = λ e. absurd (other_kind (Ok End) (Ok Accepted) (omega arith) e);
+          accepted_withdraw = λ e. absurd (other_kind (Ok End) (Ok Accepted) (omega arith) e);
+          solved_leaves = λ e. absurd (other_kind (Ok End) (Ok Solved) (omega arith) e);
           next_at_end = λ ends. here;
           next_command_is = λ on. absurd (on (inl refl));
         }
@@ -149,52 +150,52 @@ module _ (t : State) (stream : List ℕ) (at : ℕ) where
         past l = omega arith
 
     not-ending : (r : Reply) → (kind r ≡ 0 → ⊥) → (kind r ≡ 3 → ⊥) → EndsTheStream r → ⊥
-    not-ending r not_end not-refused (inl e) = other_kind r End not_end e
+    not-ending r not_end not-refused (inl e) = other_kind r (Ok End) not_end e
     not-ending r not_end not-refused (inr (n, d, refused, _)) = none-refused r not-refused n d refused
 
     demand_accepted : (after : State) (width : ℕ) → Changes stream at → BeginsOfWidth stream at width → at + width ≤ length stream
         → (Begins stream at size_byte → SizeLeaves t stream at after) → (Begins stream at pose_byte → PoseLeaves t stream at after)
-        → (Begins stream at withdraw_byte → WithdrawLeaves t stream at after) → CallDemand1 t stream at (result Accepted after (at + width))
+        → (Begins stream at withdraw_byte → WithdrawLeaves t stream at after) → CallDemand1 t stream at (result (Ok Accepted) after (at + width))
     demand_accepted after width begins of_width fits leaves-sizes leaves-pose leaves-withdrawn =
         record {
-          refused_exactly = λ n d. (λ refused. absurd (none-refused Accepted (omega arith) n d refused), λ decides. absurd (none_decided n d decides));
+          refused_exactly = λ n d. (λ refused. absurd (none-refused (Ok Accepted) (omega arith) n d refused), λ decides. absurd (none_decided n d decides));
           end_exactly = (
-            λ e. absurd (other_kind Accepted End (omega arith) e),
+            λ e. absurd (other_kind (Ok Accepted) (Ok End) (omega arith) e),
             λ w. absurd (let l = (changes_begin stream at begins).0 in let e = w.1 in omega arith),
           );
           accepted_exactly = (λ e. (all_silent, begins), λ w. refl);
           solved_exactly = (
-            λ e. absurd (other_kind Accepted Solved (omega arith) e),
+            λ e. absurd (other_kind (Ok Accepted) (Ok Solved) (omega arith) e),
             λ w. absurd ((changes_begin stream at begins).1 w.1.1),
           );
-          refusal_changes_nothing = λ n d refused. absurd (none-refused Accepted (omega arith) n d refused);
-          end_changes_nothing = λ e. absurd (other_kind Accepted End (omega arith) e);
+          refusal_changes_nothing = λ n d refused. absurd (none-refused (Ok Accepted) (omega arith) n d refused);
+          end_changes_nothing = λ e. absurd (other_kind (Ok Accepted) (Ok End) (omega arith) e);
           accepted_size = λ e. leaves-sizes;
           accepted_pose = λ e. leaves-pose;
           accepted_withdraw = λ e. leaves-withdrawn;
-          solved_leaves = λ e. absurd (other_kind Accepted Solved (omega arith) e);
-          next_at_end = λ ends. absurd (not-ending Accepted (omega arith) (omega arith) ends);
+          solved_leaves = λ e. absurd (other_kind (Ok Accepted) (Ok Solved) (omega arith) e);
+          next_at_end = λ ends. absurd (not-ending (Ok Accepted) (omega arith) (omega arith) ends);
           next_command_is = λ on. (width, of_width, fits, refl);
         }
 
     demand_solved : (after : State) → Begins stream at solve_byte → at + solve_width ≤ length stream → SolveLeaves t after
-        → CallDemand1 t stream at (result Solved after (at + solve_width))
+        → CallDemand1 t stream at (result (Ok Solved) after (at + solve_width))
     demand_solved after begins fits leaves =
         record {
-          refused_exactly = λ n d. (λ refused. absurd (none-refused Solved (omega arith) n d refused), λ decides. absurd (none_decided n d decides));
-          end_exactly = (λ e. absurd (other_kind Solved End (omega arith) e), λ w. absurd (let l = begins.0 in let e = w.1 in omega arith));
+          refused_exactly = λ n d. (λ refused. absurd (none-refused (Ok Solved) (omega arith) n d refused), λ decides. absurd (none_decided n d decides));
+          end_exactly = (λ e. absurd (other_kind (Ok Solved) (Ok End) (omega arith) e), λ w. absurd (let l = begins.0 in let e = w.1 in omega arith));
           accepted_exactly = (
-            λ e. absurd (other_kind Solved Accepted (omega arith) e),
+            λ e. absurd (other_kind (Ok Solved) (Ok Accepted) (omega arith) e),
             λ w. absurd ((changes_begin stream at w.1).1 begins.1),
           );
           solved_exactly = (λ e. (all_silent, begins), λ w. refl);
-          refusal_changes_nothing = λ n d refused. absurd (none-refused Solved (omega arith) n d refused);
-          end_changes_nothing = λ e. absurd (other_kind Solved End (omega arith) e);
-          accepted_size = λ e. absurd (other_kind Solved Accepted (omega arith) e);
-          accepted_pose = λ e. absurd (other_kind Solved Accepted (omega arith) e);
-          accepted_withdraw = λ e. absurd (other_kind Solved Accepted (omega arith) e);
+          refusal_changes_nothing = λ n d refused. absurd (none-refused (Ok Solved) (omega arith) n d refused);
+          end_changes_nothing = λ e. absurd (other_kind (Ok Solved) (Ok End) (omega arith) e);
+          accepted_size = λ e. absurd (other_kind (Ok Solved) (Ok Accepted) (omega arith) e);
+          accepted_pose = λ e. absurd (other_kind (Ok Solved) (Ok Accepted) (omega arith) e);
+          accepted_withdraw = λ e. absurd (other_kind (Ok Solved) (Ok Accepted) (omega arith) e);
           solved_leaves = λ e. leaves;
-          next_at_end = λ ends. absurd (not-ending Solved (omega arith) (omega arith) ends);
+          next_at_end = λ ends. absurd (not-ending (Ok Solved) (omega arith) (omega arith) ends);
           next_command_is = λ on. (solve_width, inr (inr (inl (begins, refl))), fits, refl);
         }
 
@@ -207,12 +208,12 @@ module _ (t : State) (stream : List ℕ) (at : ℕ) where
   module _ (byte : ℕ) (own others : List Check) (o : Option Refusal) where
     not_here : (Begins stream at byte → ⊥) → Comes others o → Comes (when (Begins stream at byte) own ++ others) o
     unfolding or_else
-    not_here other comes = comes_append others (when (Begins stream at byte) own) none o (comes_when-not (Begins stream at byte) other own) (λ e. comes)
+    not_here other comes = comes_append others (when (Begins stream at byte) own) None o (comes_when-not (Begins stream at byte) other own) (λ e. comes)
 
-    here : Begins stream at byte → Comes own o → Comes others none → Comes (when (Begins stream at byte) own ++ others) o
+    here : Begins stream at byte → Comes own o → Comes others None → Comes (when (Begins stream at byte) own ++ others) o
     here begins comes silent =
         subst (Comes (when (Begins stream at byte) own ++ others)) (or_else_none o)
-        (comes_append others (when (Begins stream at byte) own) o none (comes_when (Begins stream at byte) begins own o comes) (λ e. silent))
+        (comes_append others (when (Begins stream at byte) own) o None (comes_when (Begins stream at byte) begins own o comes) (λ e. silent))
 
   abbrev solve_here : List Check
   solve_here = when (Begins stream at solve_byte) (solve_command_checks t stream at)
@@ -224,14 +225,14 @@ module _ (t : State) (stream : List ℕ) (at : ℕ) where
   from_pose = when (Begins stream at pose_byte) (pose_command_checks t stream at) ++ from_withdraw
 
   -- None of the commands from some on begins there.
-  no_solve : (Begins stream at solve_byte → ⊥) → Comes solve_here none
+  no_solve : (Begins stream at solve_byte → ⊥) → Comes solve_here None
   no_solve other = comes_when-not (Begins stream at solve_byte) other (solve_command_checks t stream at)
 
-  none_from_withdraw : (Begins stream at withdraw_byte → ⊥) → (Begins stream at solve_byte → ⊥) → Comes from_withdraw none
-  none_from_withdraw w s = not_here withdraw_byte (withdraw_command_checks t stream at) solve_here none w (no_solve s)
+  none_from_withdraw : (Begins stream at withdraw_byte → ⊥) → (Begins stream at solve_byte → ⊥) → Comes from_withdraw None
+  none_from_withdraw w s = not_here withdraw_byte (withdraw_command_checks t stream at) solve_here None w (no_solve s)
 
-  none_from_pose : (Begins stream at pose_byte → ⊥) → (Begins stream at withdraw_byte → ⊥) → (Begins stream at solve_byte → ⊥) → Comes from_pose none
-  none_from_pose p w s = not_here pose_byte (pose_command_checks t stream at) from_withdraw none p (none_from_withdraw w s)
+  none_from_pose : (Begins stream at pose_byte → ⊥) → (Begins stream at withdraw_byte → ⊥) → (Begins stream at solve_byte → ⊥) → Comes from_pose None
+  none_from_pose p w s = not_here pose_byte (pose_command_checks t stream at) from_withdraw None p (none_from_withdraw w s)
 
   comes_commands-size : Begins stream at size_byte → (o : Option Refusal) → Comes (size_command_checks t stream at) o → Comes (command_checks t stream at) o
   comes_commands-size begins o comes =
@@ -259,15 +260,15 @@ module _ (t : State) (stream : List ℕ) (at : ℕ) where
       (not_here withdraw_byte (withdraw_command_checks t stream at) solve_here o (other_byte solve_byte withdraw_byte (omega arith) begins)
       (comes_when (Begins stream at solve_byte) begins (solve_command_checks t stream at) o comes)))
 
-  comes_commands-none : ((byte : ℕ) → Begins stream at byte → ⊥) → Comes (command_checks t stream at) none
+  comes_commands-none : ((byte : ℕ) → Begins stream at byte → ⊥) → Comes (command_checks t stream at) None
   comes_commands-none nothing =
-      not_here size_byte (size_command_checks t stream at) from_pose none (nothing size_byte) (none_from_pose (nothing pose_byte) (nothing withdraw_byte) (nothing solve_byte))
+      not_here size_byte (size_command_checks t stream at) from_pose None (nothing size_byte) (none_from_pose (nothing pose_byte) (nothing withdraw_byte) (nothing solve_byte))
 
   -- ---- one call
 
   module _ (sixteen : length t.session.masks ≡ 16) where
     -- Refused before all else.
-    module _ (q : Refusal) (e : call_refusal t stream at ≡ some q) where
+    module _ (q : Refusal) (e : call_refusal t stream at ≡ Some q) where
       first-number : Ending (number_of q)
       unfolding Decides
       first-number = go (((comes_first t sixteen stream at).decided (number_of q) (detail_of q)).1 (q, e, refl, refl))
@@ -281,19 +282,19 @@ module _ (t : State) (stream : List ℕ) (at : ℕ) where
       demand_first : CallDemand1 t stream at (call t stream at)
       unfolding or_else
       demand_first =
-          let comes : Comes checks (some q) =
-          comes_append (reading_checks t stream at ++ command_checks t stream at) (first_checks t stream at) (some q) none
+          let comes : Comes checks (Some q) =
+          comes_append (reading_checks t stream at ++ command_checks t stream at) (first_checks t stream at) (Some q) None
           (subst (Comes (first_checks t stream at)) e (comes_first t sixteen stream at)) (λ f. absurd (some-not-none f)) in
           subst (CallDemand1 t stream at) (sym (call-refused t stream at q e))
           (demand_refused q (length stream) comes (λ ending. refl) (λ on. absurd (on first-number)))
 
-    module _ (e : call_refusal t stream at ≡ none) where
+    module _ (e : call_refusal t stream at ≡ None) where
       -- Nothing before all else: then the checks of reading, and after them the command's.
-      comes_after : (o₁ o₂ : Option Refusal) → Comes (reading_checks t stream at) o₁ → (o₁ ≡ none → Comes (command_checks t stream at) o₂)
+      comes_after : (o₁ o₂ : Option Refusal) → Comes (reading_checks t stream at) o₁ → (o₁ ≡ None → Comes (command_checks t stream at) o₂)
           → Comes checks (or_else o₁ o₂)
       unfolding or_else
       comes_after o₁ o₂ reads commands =
-          comes_append (reading_checks t stream at ++ command_checks t stream at) (first_checks t stream at) none (or_else o₁ o₂)
+          comes_append (reading_checks t stream at ++ command_checks t stream at) (first_checks t stream at) None (or_else o₁ o₂)
           (subst (Comes (first_checks t stream at)) e (comes_first t sixteen stream at))
           (λ f. comes_append (command_checks t stream at) (reading_checks t stream at) o₁ o₂ reads commands)
 
@@ -302,7 +303,7 @@ module _ (t : State) (stream : List ℕ) (at : ℕ) where
       demand_at_end here =
           subst (CallDemand1 t stream at) (sym (call_end t stream at e here))
           (demand_end
-          (comes_after none none (comes_nothing-read stream at t (omega arith)) (λ f. comes_commands-none (λ byte begins. let l = begins.0 in omega arith)))
+          (comes_after None None (comes_nothing-read stream at t (omega arith)) (λ f. comes_commands-none (λ byte begins. let l = begins.0 in omega arith)))
           here)
 
       module _ (before-end : at < length stream) where
@@ -316,17 +317,17 @@ module _ (t : State) (stream : List ℕ) (at : ℕ) where
         reads = call-read t stream at e (omega arith)
 
         -- "10, 11": the stream ends.
-        demand_stopped : (q : Refusal) → Comes (reading_checks t stream at) (some q) → Ending (number_of q)
-            → call t stream at ≡ result (Refused q) t (length stream) → CallDemand1 t stream at (call t stream at)
+        demand_stopped : (q : Refusal) → Comes (reading_checks t stream at) (Some q) → Ending (number_of q)
+            → call t stream at ≡ result (Err q) t (length stream) → CallDemand1 t stream at (call t stream at)
         unfolding or_else
         demand_stopped q comes ending called =
             subst (CallDemand1 t stream at) (sym called)
-            (demand_refused q (length stream) (comes_after (some q) none comes (λ f. absurd (some-not-none f))) (λ x. refl) (λ on. absurd (on ending)))
+            (demand_refused q (length stream) (comes_after (Some q) None comes (λ f. absurd (some-not-none f))) (λ x. refl) (λ on. absurd (on ending)))
 
         -- A whole command, refused or not.
         demand_obeyed : (command : Command) (width : ℕ) → BeginsOfWidth stream at width → at + width ≤ length stream
             → parse stream at ≡ complete command width → Comes (command_checks t stream at) (command_refusal (held_of t.session) t.buffer command)
-            → (command_refusal (held_of t.session) t.buffer command ≡ none → Comes checks none
+            → (command_refusal (held_of t.session) t.buffer command ≡ None → Comes checks None
             → CallDemand1 t stream at (result (reply_to command) (state_after t command) (at + width)))
             → CallDemand1 t stream at (call t stream at)
         unfolding or_else read
@@ -336,13 +337,13 @@ module _ (t : State) (stream : List ℕ) (at : ℕ) where
             obeys = reads ∙ ap (read t stream at) parsed
 
             comes : Comes checks (command_refusal (held_of t.session) t.buffer command)
-            comes = comes_after none (command_refusal (held_of t.session) t.buffer command) (comes_whole stream at t width begins fits) (λ f. commands)
+            comes = comes_after None (command_refusal (held_of t.session) t.buffer command) (comes_whole stream at t width begins fits) (λ f. commands)
 
             go : (o : Option Refusal) → command_refusal (held_of t.session) t.buffer command ≡ o → CallDemand1 t stream at (call t stream at)
-            go none f =
+            go None f =
                 subst (CallDemand1 t stream at) (sym (obeys ∙ obeyed-accepted t command (at + width) f)) (accepted f (subst (Comes checks) f comes))
-            go (some q) f =
-                let goes_on : ends_stream (Refused q) ≡ false =
+            go (Some q) f =
+                let goes_on : ends_stream (Err q) ≡ false =
                 ap (λ (a : Answer). ends_stream a.reply) (sym (answer_to-refused t command q f)) ∙ command_goes_on t command in
                 subst (CallDemand1 t stream at) (sym (obeys ∙ obeyed-refused t command (at + width) q f))
                 (demand_refused q (at + width) (subst (Comes checks) f comes) (λ ending. absurd (goes_on_number q goes_on ending)) (λ on. (width, begins, fits, refl)))
@@ -383,8 +384,8 @@ pub call_demand_1 : (t : State) (stream : List ℕ) (at : ℕ) → length t.sess
 call_demand_1 t stream at sixteen = go (call_refusal t stream at) refl
   where
     go : (o : Option Refusal) → call_refusal t stream at ≡ o → CallDemand1 t stream at (call t stream at)
-    go (some q) e = demand_first t stream at sixteen q e
-    go none e =
+    go (Some q) e = demand_first t stream at sixteen q e
+    go None e =
         ⊎_elim (demand_at_end t stream at sixteen e) (λ before. demand_reading t stream at sixteen e before (reading stream at before))
         (eq-or-lt_of_le (usable_of_call t stream at e).1)
 

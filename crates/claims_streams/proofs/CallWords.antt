@@ -7,7 +7,7 @@ use native.Mathlib.Omega.{arith}
 use mathlib.Core.Path.{◌≡◌, refl, sym, ap, subst, ◌∙◌}
 use mathlib.Core.Logic.{◌≢◌, ◌↔◌, ◌⊎◌, inl, inr, ⊎_elim}
 use mathlib.Core.Bool.{Bool, true, false, not, ◌||◌, true≢false, false≢true}
-use mathlib.Core.Option.{Option, none, some}
+use Rattle.std.specs.Prelude.{Option, None, Some}
 use mathlib.Core.List.{List, [], ◌∷◌}
 use lib.ListN.{length, get_or}
 use lib.Dec.{T, leb, ltb}
@@ -33,7 +33,6 @@ use Rattle.claims_direct.proofs.DirectWords.{size_found, sizes_carried, direct_c
 use Rattle.claims_direct.proofs.FinitePoses.{finite_pose_numbers}
 use Rattle.claims_direct.proofs.GridRefusals.{or_else_none}
 use Rattle.command.specs.Command.{size, place, withdraw, edit, solve, complete, broken, unknown, size_byte, pose_byte, solve_byte, withdraw_byte, size_width, pose_width, solve_width, withdraw_width, word_at, double_at, offered_pose, width_of, parse}
-use Rattle.command.specs.Inner.Parts.{width_or_zero}
 use Rattle.command.proofs.Decoding.{parse-foreign, parse-short, parse-size, parse-place, parse-withdraw, parse-solve}
 use Rattle.session_record.specs.Session.{held_of, has_size, session_grid, named_cell, possible}
 use Rattle.session_commands.specs.Commands.{edit_refusal, edit_session, command_refusal, session_after, Left, left-fresh, left_after}
@@ -121,7 +120,7 @@ module _ (t : State) (sixteen : length t.session.masks ≡ 16) where
       )
 
 -- A call that they let pass is made in a state that can be used, at an offset that is not past the end.
-pub usable_of_call : (t : State) (stream : List ℕ) (at : ℕ) → call_refusal t stream at ≡ none → Usable t × (at ≤ length stream)
+pub usable_of_call : (t : State) (stream : List ℕ) (at : ℕ) → call_refusal t stream at ≡ None → Usable t × (at ≤ length stream)
 unfolding call_refusal
 usable_of_call t stream at e =
     let (_, (wrong, (past, _))) =
@@ -156,16 +155,12 @@ module _ (stream : List ℕ) (at : ℕ) where
     byte = get_or stream at 0
 
     -- A command that ends in the stream is whole, and any other is broken.
-    read_whole : (width : ℕ) → width_of byte ≡ some width → 0 < width → BeginsOfWidth stream at width
-        → (at + width_or_zero (width_of byte) ≤ length stream → at + width ≤ length stream → Reading) → Reading
-    read_whole width e some_byte begins whole = go (dec_le (at + width) (length stream))
+    read_whole : (width : ℕ) → width_of byte ≡ Some width → BeginsOfWidth stream at width → (at + width ≤ length stream → Reading) → Reading
+    read_whole width e begins whole = go (dec_le (at + width) (length stream))
       where
-        taken : width_or_zero (width_of byte) ≡ width
-        taken = ap width_or_zero e
-
         go : Dec (at + width ≤ length stream) → Reading
-        go (yes fits) = whole (omega (arith, taken)) fits
-        go (no past) = cut_short width (parse-short stream at (λ z. omega (arith, taken)) (omega (arith, taken))) begins (omega arith)
+        go (yes fits) = whole fits
+        go (no past) = cut_short width (parse-short stream at width e (omega arith)) begins (omega arith)
 
     pub reading : Reading
     unfolding width_of
@@ -173,25 +168,21 @@ module _ (stream : List ℕ) (at : ℕ) where
       where
         go : Dec (byte ≡ size_byte) → Dec (byte ≡ pose_byte) → Dec (byte ≡ solve_byte) → Dec (byte ≡ withdraw_byte) → Reading
         go (yes e) p s t =
-            read_whole size_width (rw (eq-eqb _ _ e) refl) (omega arith) (inl ((before-end, e), refl))
-            (λ room fits. whole-size (parse-size stream at e room).0 (before-end, e) fits)
+            read_whole size_width (rw e refl) (inl ((before-end, e), refl)) (λ fits. whole-size (parse-size stream at e fits) (before-end, e) fits)
         go (no z) (yes e) s t =
-            read_whole pose_width (rw (ne_eqb byte size_byte z, eq-eqb _ _ e) refl) (omega arith) (inr (inl ((before-end, e), refl)))
-            (λ room fits. whole-pose (parse-place stream at z e room).0 (before-end, e) fits)
+            read_whole pose_width (rw e refl) (inr (inl ((before-end, e), refl))) (λ fits. whole-pose (parse-place stream at e fits) (before-end, e) fits)
         go (no z) (no p) (yes e) t =
-            let found : width_of byte ≡ some solve_width = rw (ne_eqb byte size_byte z, ne_eqb byte pose_byte p, eq-eqb _ _ e) refl in
-            read_whole solve_width found (omega arith) (inr (inr (inl ((before-end, e), refl))))
-            (λ room fits. whole-solve (parse-solve stream at z p (λ w. omega (arith, e)) (λ none. omega (arith, ap width_or_zero found)) room) (before-end, e) fits)
+            read_whole solve_width (rw e refl) (inr (inr (inl ((before-end, e), refl)))) (λ fits. whole-solve (parse-solve stream at e fits) (before-end, e) fits)
         go (no z) (no p) (no s) (yes e) =
-            read_whole withdraw_width (rw e refl) (omega arith) (inr (inr (inr ((before-end, e), refl))))
-            (λ room fits. whole-withdraw (parse-withdraw stream at e room).0 (before-end, e) fits)
+            read_whole withdraw_width (rw e refl) (inr (inr (inr ((before-end, e), refl))))
+            (λ fits. whole-withdraw (parse-withdraw stream at e fits) (before-end, e) fits)
         go (no z) (no p) (no s) (no t) =
             no_command byte
             (parse-foreign stream at (rw (ne_eqb byte size_byte z, ne_eqb byte pose_byte p, ne_eqb byte solve_byte s, ne_eqb byte withdraw_byte t) refl))
             (before-end, refl) (z, p, s, t)
 
   -- The width that the words give is the table's.
-  width_of_words : (width : ℕ) → BeginsOfWidth stream at width → width_of (get_or stream at 0) ≡ some width
+  width_of_words : (width : ℕ) → BeginsOfWidth stream at width → width_of (get_or stream at 0) ≡ Some width
   unfolding width_of
   width_of_words w (inl ((_, b), e)) = rw (b, e) refl
   width_of_words w (inr (inl ((_, b), e))) = rw (b, e) refl
@@ -199,7 +190,7 @@ module _ (stream : List ℕ) (at : ℕ) where
   width_of_words w (inr (inr (inr ((_, b), e)))) = rw (b, e) refl
 
   one_width : (width width' : ℕ) → BeginsOfWidth stream at width → BeginsOfWidth stream at width' → width ≡ width'
-  one_width w w' begins begins' = ap width_or_zero (sym (width_of_words w begins) ∙ width_of_words w' begins')
+  one_width w w' begins begins' = let same : ◌≡◌ {A = Option ℕ} (Some w) (Some w') = sym (width_of_words w begins) ∙ width_of_words w' begins' in cc
 
   known_byte : (width byte : ℕ) → BeginsOfWidth stream at width → Begins stream at byte → Unknown byte → ⊥
   known_byte width byte (inl ((_, b), _)) (_, e) (z, p, s, t) = z (sym e ∙ b)
@@ -208,25 +199,25 @@ module _ (stream : List ℕ) (at : ℕ) where
   known_byte width byte (inr (inr (inr ((_, b), _)))) (_, e) (z, p, s, t) = t (sym e ∙ b)
 
   module _ (t : State) where
-    pub comes_unknown : (byte : ℕ) → Begins stream at byte → Unknown byte → Comes (reading_checks t stream at) (some (UnknownCommand byte))
+    pub comes_unknown : (byte : ℕ) → Begins stream at byte → Unknown byte → Comes (reading_checks t stream at) (Some (UnknownCommand byte))
     unfolding first_of or_else
     comes_unknown byte begins (z, p, s, w) =
-        comes_carried (reading_checks t stream at) (some (UnknownCommand byte) ∷ none ∷ [])
+        comes_carried (reading_checks t stream at) (Some (UnknownCommand byte) ∷ None ∷ [])
         (carries_some _ (UnknownCommand byte) refl (begins, z, p, s, w) (λ d says. sym begins.1 ∙ says.0.1), λ e. absurd (some-not-none e))
 
     pub comes_cut_short : (width : ℕ) → BeginsOfWidth stream at width → length stream < at + width
-        → Comes (reading_checks t stream at) (some (Truncated at))
+        → Comes (reading_checks t stream at) (Some (Truncated at))
     unfolding first_of or_else
     comes_cut_short width begins short =
-        comes_carried (reading_checks t stream at) (none ∷ some (Truncated at) ∷ []) (
+        comes_carried (reading_checks t stream at) (None ∷ Some (Truncated at) ∷ []) (
           carries_none _ (λ d says. known_byte width d begins says.0 (says.1, says.2, says.3, says.4)),
           λ e. (carries_some _ (Truncated at) refl ((width, begins, short), refl) (λ d says. sym says.1), λ e₁. tt),
         )
 
-    pub comes_whole : (width : ℕ) → BeginsOfWidth stream at width → at + width ≤ length stream → Comes (reading_checks t stream at) none
+    pub comes_whole : (width : ℕ) → BeginsOfWidth stream at width → at + width ≤ length stream → Comes (reading_checks t stream at) None
     unfolding first_of or_else
     comes_whole width begins fits =
-        comes_carried (reading_checks t stream at) (none ∷ none ∷ []) (
+        comes_carried (reading_checks t stream at) (None ∷ None ∷ []) (
           carries_none _ (λ d says. known_byte width d begins says.0 (says.1, says.2, says.3, says.4)),
           λ e. (
             carries_none _ (λ d says. let (w, other, short) = says.0 in let same = one_width width w begins other in omega arith),
@@ -235,10 +226,10 @@ module _ (stream : List ℕ) (at : ℕ) where
         )
 
     -- At the end, and past it, nothing is read.
-    pub comes_nothing-read : length stream ≤ at → Comes (reading_checks t stream at) none
+    pub comes_nothing-read : length stream ≤ at → Comes (reading_checks t stream at) None
     unfolding first_of or_else
     comes_nothing-read past =
-        comes_carried (reading_checks t stream at) (none ∷ none ∷ []) (
+        comes_carried (reading_checks t stream at) (None ∷ None ∷ []) (
           carries_none _ (λ d says. let l = says.0.0 in omega arith),
           λ e. (carries_none _ (λ d says. nothing_begins says.0.0 says.0.1), λ e₁. tt),
         )

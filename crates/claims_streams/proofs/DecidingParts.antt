@@ -4,7 +4,7 @@ use Prim.Native.Nat.{ℕ}
 use native.Mathlib.Omega.{arith}
 use mathlib.Core.Path.{◌≡◌, refl, sym, subst}
 use mathlib.Core.Logic.{◌↔◌, ◌⊎◌, inl, inr}
-use mathlib.Core.Option.{Option, none, some}
+use Rattle.std.specs.Prelude.{Option, None, Some}
 use mathlib.Core.List.{List, [], ◌∷◌, ◌++◌}
 use Rattle.refusal.specs.Table.{number_of, detail_of, or_else, first_of}
 use Rattle.refusal.specs.declared.Refusal.{Refusal}
@@ -15,12 +15,12 @@ use Rattle.claims_streams.specs.CallDemand1.{when}
 -- What the list in words comes to is what a computation finds.
 pub record Comes (checks : List Check) (o : Option Refusal) : Type 0 where
   pub decided : (n d : ℕ) → Decides checks n d ↔ Finds o n d
-  pub silent : AllSilent checks ↔ (o ≡ none)
+  pub silent : AllSilent checks ↔ (o ≡ None)
 
-pub some-not-none : {q : Refusal} → some q ≡ none → ⊥
+pub some-not-none : {q : Refusal} → Some q ≡ None → ⊥
 some-not-none e = let clash : ◌≡◌ {A = ℕ} 0 1 = cc in omega arith
 
-pub some_same : (p q : Refusal) → some p ≡ some q → p ≡ q
+pub some_same : (p q : Refusal) → Some p ≡ Some q → p ≡ q
 some_same p q e = cc
 
 pub comes_carried : (checks : List Check) (os : List (Option Refusal)) → Carried checks os → Comes checks (first_of os)
@@ -34,7 +34,7 @@ silent_undecided [] n d silent decides = decides
 silent_undecided (c ∷ later) n d (first, others) (inl (number, says)) = first d says
 silent_undecided (c ∷ later) n d (first, others) (inr (quiet, decides)) = silent_undecided later n d others decides
 
-pub comes_silent : (checks : List Check) → AllSilent checks → Comes checks none
+pub comes_silent : (checks : List Check) → AllSilent checks → Comes checks None
 comes_silent checks all =
     record {
       decided = λ n d. (λ decides. absurd (silent_undecided checks n d all decides), λ found. absurd (some-not-none (sym found.1)));
@@ -77,9 +77,9 @@ module _ (b : List Check) where
   left_decides (c ∷ later) n d n' d' (inl (number, says)) (inr (quiet, decides)) = absurd (quiet d says)
   left_decides (c ∷ later) n d n' d' (inr (quiet, left)) (inr (quiet', decides)) = inr (quiet, left_decides later n d n' d' left decides)
 
-  pub comes_append : (a : List Check) (o o' : Option Refusal) → Comes a o → (o ≡ none → Comes b o') → Comes (a ++ b) (or_else o o')
+  pub comes_append : (a : List Check) (o o' : Option Refusal) → Comes a o → (o ≡ None → Comes b o') → Comes (a ++ b) (or_else o o')
   unfolding or_else
-  comes_append a none o' comes next =
+  comes_append a None o' comes next =
       let all = comes.silent.1 refl in
       let later = next refl in
       record {
@@ -89,7 +89,7 @@ module _ (b : List Check) where
         );
         silent = (λ s. later.silent.0 ((silent_both a).0 s).1, λ e. (silent_both a).1 (all, later.silent.1 e));
       }
-  comes_append a (some q) o' comes next =
+  comes_append a (Some q) o' comes next =
       let here = (comes.decided (number_of q) (detail_of q)).1 (q, refl, refl, refl) in
       record {
         decided = λ n d. (
@@ -107,7 +107,7 @@ module _ (P : Type 0) where
   when_fails fails [] = tt
   when_fails fails (c ∷ later) = (λ d says. fails says.0, when_fails fails later)
 
-  pub comes_when-not : (P → ⊥) → (checks : List Check) → Comes (when P checks) none
+  pub comes_when-not : (P → ⊥) → (checks : List Check) → Comes (when P checks) None
   comes_when-not fails checks = comes_silent (when P checks) (when_fails fails checks)
 
   module _ (p : P) where
@@ -148,11 +148,11 @@ module _ (P : Type 0) where
 
 -- ---- one check against what is computed
 
-pub carries_none : (c : Check) → Silent c → Carries c none
+pub carries_none : (c : Check) → Silent c → Carries c None
 carries_none c quiet =
     record { finds_said = λ q e. absurd (some-not-none (sym e)); said_found = λ d says. absurd (quiet d says) }
 
-pub carries_some : (c : Check) (r : Refusal) → number_of r ≡ c.number → c.Says (detail_of r) → ((d : ℕ) → c.Says d → detail_of r ≡ d) → Carries c (some r)
+pub carries_some : (c : Check) (r : Refusal) → number_of r ≡ c.number → c.Says (detail_of r) → ((d : ℕ) → c.Says d → detail_of r ≡ d) → Carries c (Some r)
 carries_some c r number said only =
     record {
       finds_said = λ q e.

@@ -6,7 +6,7 @@ use native.Mathlib.Nat.{mod-lt}
 use native.Mathlib.Omega.{arith}
 use mathlib.Core.Path.{◌≡◌, refl, sym, ap, subst, ◌∙◌}
 use mathlib.Core.Bool.{Bool, true, false, not, cond}
-use mathlib.Core.Option.{Option, none, some}
+use Rattle.std.specs.Prelude.{Option, None, Some}
 use mathlib.Core.List.{List, [], ◌∷◌, ◌++◌}
 use lib.ListN.{length, get_or}
 use lib.Dec.{T}
@@ -21,7 +21,6 @@ use Rattle.lists.specs.Masks.{in_mask}
 use Rattle.placing.specs.Grid.{Grid}
 use Rattle.extrinsics.specs.Outcome.{is_not_finite, lowest_not_finite, not_finite, lowest_empty_view, grid_refusal}
 use Rattle.placing.specs.Rig.{rig_cell, rig_grid}
-use Rattle.placing.specs.declared.grid.Cell.TheVariants.{Empty, Held}
 use Rattle.inputs.proofs.Answering.{refuse_at-none}
 use Rattle.lists.proofs.Lowest.{lowest-nothing}
 use Rattle.lists.proofs.Tabulated.{get_d_tabulate}
@@ -48,10 +47,10 @@ use Rattle.claims_streams.proofs.Usable.{usable_after_all}
 -- A cell that is marked and holds finite numbers, if any, has them in the buffer.
 finite_cell : (masks : List ℕ) (buffer : List Float) (v c : ℕ) (o : Option Pose) → HoldsCell masks buffer v c o → FiniteCell o
     → T (in_mask (get_or masks c 0) v) → T (finite_pose (pose_at buffer (cell_start v c)))
-finite_cell masks buffer v c none clear finite marked = absurd (subst T clear marked)
-finite_cell masks buffer v c (some p) (_, same) finite marked = subst (λ (q : Pose). T (finite_pose q)) (sym same) finite
+finite_cell masks buffer v c None clear finite marked = absurd (subst T clear marked)
+finite_cell masks buffer v c (Some p) (_, same) finite marked = subst (λ (q : Pose). T (finite_pose q)) (sym same) finite
 
-finite_marked : (b : Bool) (p : Pose) → (T b → T (finite_pose p)) → is_not_finite (cond b (Held p) Empty) ≡ false
+finite_marked : (b : Bool) (p : Pose) → (T b → T (finite_pose p)) → is_not_finite (cond b (Some p) None) ≡ false
 unfolding is_not_finite
 finite_marked true p f = go (finite_pose p) (f tt)
   where
@@ -63,42 +62,42 @@ finite_marked false p f = refl
 -- 7 finds nothing where every pose that the masks mark is finite.
 finite_grid : (s : Session) (buffer : List Float) → T (possible s)
     → ((v c : ℕ) → c < max_cameras → T (in_mask (get_or s.masks c 0) v) → T (finite_pose (pose_at buffer (cell_start v c))))
-    → not_finite (session_grid (held_of s) buffer) ≡ none
+    → not_finite (session_grid (held_of s) buffer) ≡ None
 unfolding not_finite lowest_not_finite rig_grid
 finite_grid s buffer allowed each =
     refuse_at-none (lowest_not_finite (session_grid (held_of s) buffer)) NotFinite
-    (lowest-nothing (λ i. is_not_finite (get_or (session_grid (held_of s) buffer).cells i Empty)) (s.views * s.cameras) cell_finite)
+    (lowest-nothing (λ i. is_not_finite (get_or (session_grid (held_of s) buffer).cells i None)) (s.views * s.cameras) cell_finite)
   where
-    cell_finite : (i : ℕ) → i < s.views * s.cameras → is_not_finite (get_or (session_grid (held_of s) buffer).cells i Empty) ≡ false
+    cell_finite : (i : ℕ) → i < s.views * s.cameras → is_not_finite (get_or (session_grid (held_of s) buffer).cells i None) ≡ false
     cell_finite i h =
         let some_camera : 0 < s.cameras = some-column i s.views s.cameras h in
         let cameras_fit : s.cameras ≤ max_cameras = (within_limits s allowed).1 in
         let v = i / s.cameras in
         let c = i % s.cameras in
-        ap is_not_finite (get_d_tabulate (s.views * s.cameras) (λ j. rig_cell (rig_of (held_of s)) buffer (j / s.cameras) (j % s.cameras)) Empty i h)
+        ap is_not_finite (get_d_tabulate (s.views * s.cameras) (λ j. rig_cell (rig_of (held_of s)) buffer (j / s.cameras) (j % s.cameras)) None i h)
         ∙ finite_marked (in_mask (get_or s.masks c 0) v) (pose_at buffer (cell_start v c)) (each v c (omega (arith, mod-lt i some_camera)))
 
 -- ---- what Solve refuses
 
 -- Where 7 finds nothing in a grid, it is refused by 8 or 9, if at all.
-grid_not_7 : (g : Grid) → not_finite g ≡ none → (n : ℕ) → grid_refusal g ≡ some (NotFinite n) → ⊥
+grid_not_7 : (g : Grid) → not_finite g ≡ None → (n : ℕ) → grid_refusal g ≡ Some (NotFinite n) → ⊥
 unfolding refuse_at
 grid_not_7 g finite n e = go (left g) refl (lowest_empty_view g) refl
   where
     go : (l : List ℕ) → left g ≡ l → (o : Option ℕ) → lowest_empty_view g ≡ o → ⊥
     go (c ∷ l) f o h = let z : ◌≡◌ {A = ℕ} 0 1 = cc (grid_refusal-unreached g finite c l f) in omega arith
-    go [] f none h = let z : ◌≡◌ {A = ℕ} 0 1 = cc (grid_refusal-empty_view g finite f) in omega arith
-    go [] f (some v) h = let z : ◌≡◌ {A = ℕ} 0 1 = cc (grid_refusal-empty_view g finite f) in omega arith
+    go [] f None h = let z : ◌≡◌ {A = ℕ} 0 1 = cc (grid_refusal-empty_view g finite f) in omega arith
+    go [] f (Some v) h = let z : ◌≡◌ {A = ℕ} 0 1 = cc (grid_refusal-empty_view g finite f) in omega arith
 
-solve-not_7 : (s : Session) (buffer : List Float) → not_finite (session_grid (held_of s) buffer) ≡ none
-    → (n : ℕ) → command_refusal (held_of s) buffer solve ≡ some (NotFinite n) → ⊥
+solve-not_7 : (s : Session) (buffer : List Float) → not_finite (session_grid (held_of s) buffer) ≡ None
+    → (n : ℕ) → command_refusal (held_of s) buffer solve ≡ Some (NotFinite n) → ⊥
 unfolding first_of refuse_if
 solve-not_7 s buffer finite n e =
     go (has_size (held_of s)) (grid_refusal (session_grid (held_of s) buffer)) (grid_not_7 (session_grid (held_of s) buffer) finite n) (sym (solve_checks s buffer) ∙ e)
   where
-    go : (sized : Bool) (o : Option Refusal) → (o ≡ some (NotFinite n) → ⊥) → first_of (refuse_if (not sized) NoSize ∷ o ∷ []) ≡ some (NotFinite n) → ⊥
-    go true none other f = other f
-    go true (some r) other f = other f
+    go : (sized : Bool) (o : Option Refusal) → (o ≡ Some (NotFinite n) → ⊥) → first_of (refuse_if (not sized) NoSize ∷ o ∷ []) ≡ Some (NotFinite n) → ⊥
+    go true None other f = other f
+    go true (Some r) other f = other f
     go false o other f = let z : ◌≡◌ {A = ℕ} 0 1 = cc in omega arith
 
 -- ---- a session that began fresh
@@ -114,7 +113,7 @@ module _ (buffer first : List Float) (second : List ℕ) (buffer_fits : length b
 
   -- After any commands 7 finds nothing in "the grid that masks and buffer hold".
   pub held_finite : (commands : List Command)
-      → not_finite (session_grid (held_of (state_after_all start commands).session) (state_after_all start commands).buffer) ≡ none
+      → not_finite (session_grid (held_of (state_after_all start commands).session) (state_after_all start commands).buffer) ≡ None
   held_finite commands =
       finite_grid (state_after_all start commands).session (state_after_all start commands).buffer (usable_after_all commands start usable).record_possible
       (λ v c h.
@@ -131,6 +130,6 @@ module _ (buffer first : List Float) (second : List ℕ) (buffer_fits : length b
 
   -- "Solve checks 7, 8, 9": here 7 never refuses it.
   pub never_7_at_solve : (commands : List Command) (n : ℕ)
-      → command_refusal (held_of (state_after_all start commands).session) (state_after_all start commands).buffer solve ≡ some (NotFinite n) → ⊥
+      → command_refusal (held_of (state_after_all start commands).session) (state_after_all start commands).buffer solve ≡ Some (NotFinite n) → ⊥
   never_7_at_solve commands =
       solve-not_7 (state_after_all start commands).session (state_after_all start commands).buffer (held_finite commands)

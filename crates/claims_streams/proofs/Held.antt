@@ -4,7 +4,7 @@
 use Prim.Native.Nat.{ℕ, ◌+◌, ◌≤◌, ◌<◌}
 use mathlib.Core.Path.{◌≡◌, refl, sym, ap, subst, ◌∙◌}
 use mathlib.Core.Bool.{Bool, true, false, ◌||◌, true≢false}
-use mathlib.Core.Option.{Option, none, some}
+use Rattle.std.specs.Prelude.{Option, None, Some}
 use mathlib.Core.List.{List, [], ◌∷◌, ◌++◌}
 use lib.ListN.{length, get_or, get_or-replicate}
 use lib.Ieee.{Float, nan}
@@ -35,13 +35,13 @@ accepted_in-reply (edit change) = refl
 accepted_in-reply solve = refl
 
 module _ (t : State) (command : Command) (later : List Command) where
-  accepted_edits-refused : (r : Refusal) → command_refusal (held_of t.session) t.buffer command ≡ some r
+  accepted_edits-refused : (r : Refusal) → command_refusal (held_of t.session) t.buffer command ≡ Some r
       → accepted_edits t (command ∷ later) ≡ accepted_edits (answer_to t command).after later
   unfolding accepted_edits accepted_in
   accepted_edits-refused r e =
       ap (λ (a : Answer). accepted_in command a.reply ++ accepted_edits (answer_to t command).after later) (answer_to-refused t command r e)
 
-  accepted_edits-accepted : command_refusal (held_of t.session) t.buffer command ≡ none
+  accepted_edits-accepted : command_refusal (held_of t.session) t.buffer command ≡ None
       → accepted_edits t (command ∷ later) ≡ edits_in command ++ accepted_edits (answer_to t command).after later
   unfolding accepted_edits
   accepted_edits-accepted e =
@@ -78,7 +78,7 @@ module _ (t : State) (u : Usable t) where
   masks_accepted (edit change) = (edit_law change).masks_kept t.session
   masks_accepted solve = refl
 
-  cells-accepted : length t.session.masks ≡ max_cameras → (command : Command) → command_refusal (held_of t.session) t.buffer command ≡ none
+  cells-accepted : length t.session.masks ≡ max_cameras → (command : Command) → command_refusal (held_of t.session) t.buffer command ≡ None
       → (v c : ℕ) (o : Option Pose) → c < max_cameras → HoldsCell t.session.masks t.buffer v c o
       → HoldsCell (state_after t command).session.masks (state_after t command).buffer v c (held_from o (edits_in command) v c)
   unfolding command_refusal state_after session_after buffer_after held_from edits_in
@@ -86,7 +86,7 @@ module _ (t : State) (u : Usable t) where
       (edit_law change).cells_after t.session t.buffer e sound sixteen u.buffer_fits v c o h before
   cells-accepted sixteen solve e v c o h before = before
 
-  floats-accepted : (command : Command) → command_refusal (held_of t.session) t.buffer command ≡ none → (v c : ℕ) → c < max_cameras
+  floats-accepted : (command : Command) → command_refusal (held_of t.session) t.buffer command ≡ None → (v c : ℕ) → c < max_cameras
       → written (edits_in command) v c ≡ false
       → (k : ℕ) → k < 7 → get_or (state_after t command).buffer (cell_start v c + k) nan ≡ get_or t.buffer (cell_start v c + k) nan
   unfolding command_refusal state_after buffer_after written edits_in
@@ -94,7 +94,7 @@ module _ (t : State) (u : Usable t) where
       (edit_law change).others_kept t.session t.buffer e sound u.buffer_fits v c h (or-false _ _ names).0
   floats-accepted solve e v c h names = λ k l. refl
 
-  finite_accepted : (command : Command) → command_refusal (held_of t.session) t.buffer command ≡ none → (v c : ℕ) (o : Option Pose)
+  finite_accepted : (command : Command) → command_refusal (held_of t.session) t.buffer command ≡ None → (v c : ℕ) (o : Option Pose)
       → FiniteCell o → FiniteCell (held_from o (edits_in command) v c)
   unfolding command_refusal held_from edits_in
   finite_accepted (edit change) e v c o before = (edit_law change).finite_after t.session e v c o before
@@ -105,8 +105,8 @@ module _ (t : State) (u : Usable t) where
   masks_after sixteen command = go (command_refusal (held_of t.session) t.buffer command) refl
     where
       go : (o : Option Refusal) → command_refusal (held_of t.session) t.buffer command ≡ o → length (answer_to t command).after.session.masks ≡ max_cameras
-      go none e = ap (λ (a : Answer). length a.after.session.masks) (answer_to-accepted t command e) ∙ masks_accepted command ∙ sixteen
-      go (some r) e = ap (λ (a : Answer). length a.after.session.masks) (answer_to-refused t command r e) ∙ sixteen
+      go None e = ap (λ (a : Answer). length a.after.session.masks) (answer_to-accepted t command e) ∙ masks_accepted command ∙ sixteen
+      go (Some r) e = ap (λ (a : Answer). length a.after.session.masks) (answer_to-refused t command r e) ∙ sixteen
 
 -- ---- all commands
 
@@ -127,11 +127,11 @@ cells_all (command ∷ later) t u s v c o h before = go (command_refusal (held_o
         → ((x : Option Pose) → c < max_cameras → HoldsCell after.session.masks after.buffer v c x
         → HoldsCell (state_after_all after later).session.masks (state_after_all after later).buffer v c (held_from x (accepted_edits after later) v c))
         → HoldsCell (state_after_all after later).session.masks (state_after_all after later).buffer v c (held_from o (accepted_edits t (command ∷ later)) v c)
-    go none e rest =
+    go None e rest =
         rw (accepted_edits-accepted t command later e, held_from_edits o command (accepted_edits after later) v c)
         (rest (held_from o (edits_in command) v c) h
         (subst (Leaves (held_from o (edits_in command) v c)) (sym (answer_to-accepted t command e)) (cells-accepted t u s command e v c o h before)))
-    go (some r) e rest =
+    go (Some r) e rest =
         rw (accepted_edits-refused t command later r e)
         (rest o h (subst (Leaves o) (sym (answer_to-refused t command r e)) before))
 
@@ -151,14 +151,14 @@ floats_all (command ∷ later) t u v c h names k l = go (command_refusal (held_o
         → (written (accepted_edits after later) v c ≡ false
         → (k : ℕ) → k < 7 → get_or (state_after_all after later).buffer (cell_start v c + k) nan ≡ get_or after.buffer (cell_start v c + k) nan)
         → get_or (state_after_all after later).buffer (cell_start v c + k) nan ≡ get_or t.buffer (cell_start v c + k) nan
-    go none e rest =
+    go None e rest =
         let neither =
         or-false (written (edits_in command) v c) (written (accepted_edits after later) v c)
         (sym (ap (λ (l : List Edit). written l v c) (accepted_edits-accepted t command later e) ∙ written_edits command (accepted_edits after later) v c) ∙ names) in
         rest neither.1 k l
         ∙ ap float (answer_to-accepted t command e)
         ∙ floats-accepted t u command e v c h neither.0 k l
-    go (some r) e rest =
+    go (Some r) e rest =
         rest (sym (ap (λ (l : List Edit). written l v c) (accepted_edits-refused t command later r e)) ∙ names) k l
         ∙ ap float (answer_to-refused t command r e)
 
@@ -173,10 +173,10 @@ finite_all (command ∷ later) t u v c o before = go (command_refusal (held_of t
     go : (r : Option Refusal) → command_refusal (held_of t.session) t.buffer command ≡ r
         → ((x : Option Pose) → FiniteCell x → FiniteCell (held_from x (accepted_edits after later) v c))
         → FiniteCell (held_from o (accepted_edits t (command ∷ later)) v c)
-    go none e rest =
+    go None e rest =
         rw (accepted_edits-accepted t command later e, held_from_edits o command (accepted_edits after later) v c)
         (rest (held_from o (edits_in command) v c) (finite_accepted t u command e v c o before))
-    go (some r) e rest = rw (accepted_edits-refused t command later r e) (rest o before)
+    go (Some r) e rest = rw (accepted_edits-refused t command later r e) (rest o before)
 
 -- ---- the theorems
 
@@ -195,7 +195,7 @@ module _ (buffer first : List Float) (second : List ℕ) (buffer_fits : length b
   held_exactly commands =
       record {
         cells = λ v c h.
-            cells_all commands start usable_start refl v c none h (ap (λ (m : ℕ). in_mask m v) (get_or-replicate {A = ℕ} 16 c 0 0 h) ∙ in_mask-zero v);
+            cells_all commands start usable_start refl v c None h (ap (λ (m : ℕ). in_mask m v) (get_or-replicate {A = ℕ} 16 c 0 0 h) ∙ in_mask-zero v);
         others_kept = floats_all commands start usable_start;
         same_length = (usable_after_all commands start usable_start).buffer_fits ∙ sym buffer_fits;
       }
@@ -206,16 +206,16 @@ module _ (buffer first : List Float) (second : List ℕ) (buffer_fits : length b
   held-after-stream stream short = rw (calls_leave start stream short usable_start) (held_exactly (contents_of stream).commands)
 
   pub finite_held : (commands : List Command) (v c : ℕ) → FiniteCell (held_after (accepted_edits start commands) v c)
-  finite_held commands v c = finite_all commands start usable_start v c none tt
+  finite_held commands v c = finite_all commands start usable_start v c None tt
 
   -- An edit that is accepted after commands writes to no cell that then holds a pose: no pose is written over.
-  pub written_into_empty : (commands : List Command) (change : Edit) → edit_refusal (held_of (state_after_all start commands).session) change ≡ none
-      → (v c : ℕ) → c < max_cameras → writes change v c ≡ true → held_after (accepted_edits start commands) v c ≡ none
+  pub written_into_empty : (commands : List Command) (change : Edit) → edit_refusal (held_of (state_after_all start commands).session) change ≡ None
+      → (v c : ℕ) → c < max_cameras → writes change v c ≡ true → held_after (accepted_edits start commands) v c ≡ None
   written_into_empty commands change e v c h names =
       go (held_after (accepted_edits start commands) v c) ((held_exactly commands).cells v c h)
       ((edit_law change).into_empty (state_after_all start commands).session e v c names)
     where
       go : (o : Option Pose) → HoldsCell (state_after_all start commands).session.masks (state_after_all start commands).buffer v c o
-          → in_mask (get_or (state_after_all start commands).session.masks c 0) v ≡ false → o ≡ none
-      go none held clear = refl
-      go (some p) (bit, _) clear = absurd (true≢false (sym bit ∙ clear))
+          → in_mask (get_or (state_after_all start commands).session.masks c 0) v ≡ false → o ≡ None
+      go None held clear = refl
+      go (Some p) (bit, _) clear = absurd (true≢false (sym bit ∙ clear))

@@ -8,7 +8,7 @@ use native.Mathlib.Omega.{arith}
 use mathlib.Core.Path.{◌≡◌, refl, sym, ap, subst, ◌∙◌}
 use mathlib.Core.Logic.{◌↔◌, ⊎_elim}
 use mathlib.Core.Bool.{Bool, true, false}
-use mathlib.Core.Option.{none}
+use Rattle.std.specs.Prelude.{None}
 use mathlib.Core.List.{List, []}
 use lib.ListN.{length, get_or, set, replicate, length-set, length-replicate, get_or-replicate}
 use lib.Seq.{get_or-set_same, get_or-set_other, set-get_or, set-set, ext_get_or}
@@ -32,7 +32,7 @@ use Rattle.claims_streams.proofs.Edits.All.{edit_law}
 
 -- ---- accepted commands keep a record sound
 
-pub sound_after : (s : Session) → Sound s → (buffer : List Float) (command : Command) → command_refusal (held_of s) buffer command ≡ none → Sound (session_after s command)
+pub sound_after : (s : Session) → Sound s → (buffer : List Float) (command : Command) → command_refusal (held_of s) buffer command ≡ None → Sound (session_after s command)
 unfolding command_refusal session_after
 sound_after s h buffer (edit change) e = (edit_law change).sound_after s e h
 sound_after s h buffer solve e = h

@@ -6,7 +6,7 @@ use native.Mathlib.Decide.{dec_lt}
 use native.Mathlib.Omega.{arith}
 use mathlib.Core.Path.{◌≡◌, refl, sym, ap, ap₂, subst, ◌∙◌}
 use mathlib.Core.Bool.{Bool, true, false, cond}
-use mathlib.Core.Option.{Option, none, some}
+use Rattle.std.specs.Prelude.{Option, None, Some}
 use mathlib.Core.List.{List, [], map}
 use lib.ListN.{length, get_or, length-map, get_or-map}
 use lib.Seq.{ext_get_or}
@@ -19,14 +19,12 @@ use Rattle.refusal.specs.declared.Refusal.TheVariants.{NotFinite}
 use Rattle.lists.specs.Masks.{in_mask}
 use Rattle.extrinsics.specs.Outcome.{is_not_finite, lowest_not_finite, not_finite}
 use Rattle.placing.specs.Rig.{masked_cell, rig_cell, rig_grid}
-use Rattle.placing.specs.declared.grid.Cell.TheVariants.{Empty, Held}
 use Rattle.inputs.proofs.Answering.{refuse_at-nothing, Sizes}
 use Rattle.lists.proofs.Lowest.{lowest-none_fails}
 use Rattle.lists.proofs.Tabulated.{length-tabulate, get_d_tabulate, get_or-tabulate_past}
 use Rattle.placing.proofs.ViewCells.{row_inside, row-quotient, row_remainder, cell_of_rig_cell}
 use Rattle.claims_direct.specs.Rust.{num_views, num_cameras}
 use Rattle.claims_direct.specs.Encoding.{mark_for, pose_of, Encodes, WithinLimits, RoomEnough}
-use Rattle.claims_direct.proofs.SameGrid.{cell_for}
 use Rattle.session_record.specs.Session.{held_of, cell_start, rig_of, session_grid, possible}
 use Rattle.session_commands.specs.Obeyed.{first_length, second_length}
 use Rattle.claims_streams.specs.DirectInputs.{counts_of, marks_of, floats_of}
@@ -37,19 +35,15 @@ use Rattle.claims_streams.proofs.Sound.{has_sizes, sound_of_possible}
 
 -- ---- one cell
 
-cell_for_cond : (b : Bool) (p : Pose) → cell_for (cond b (some p) none) ≡ cond b (Held p) Empty
-cell_for_cond true p = refl
-cell_for_cond false p = refl
-
-mark_for-cond : (b : Bool) (p : Pose) → mark_for (cond b (some p) none) ≡ cond b 1 0
+mark_for-cond : (b : Bool) (p : Pose) → mark_for (cond b (Some p) None) ≡ cond b 1 0
 mark_for-cond true p = refl
 mark_for-cond false p = refl
 
-held-pose : (b : Bool) (p q : Pose) → cond b (some p) none ≡ some q → p ≡ q
+held-pose : (b : Bool) (p q : Pose) → cond b (Some p) None ≡ Some q → p ≡ q
 held-pose true p q e = cc
 held-pose false p q e = let z : ◌≡◌ {A = ℕ} 0 1 = cc in absurd (omega arith)
 
-finite_cond : (b : Bool) (p q : Pose) → is_not_finite (cond b (Held p) Empty) ≡ false → cond b (some p) none ≡ some q → T (finite_pose q)
+finite_cond : (b : Bool) (p q : Pose) → is_not_finite (cond b (Some p) None) ≡ false → cond b (Some p) None ≡ Some q → T (finite_pose q)
 unfolding is_not_finite
 finite_cond true p q finite e = let same : p ≡ q = cc in subst (λ (r : Pose). T (finite_pose r)) same (rw (not-false (finite_pose p) finite) tt)
 finite_cond false p q finite e = let z : ◌≡◌ {A = ℕ} 0 1 = cc in absurd (omega arith)
@@ -78,21 +72,21 @@ module _ (s : Session) (buffer : List Float) where
   pose_of-inside : (v c : ℕ) → v < s.views → c < s.cameras → pose_of grid v c ≡ rust_cell_of s buffer v c
   unfolding rust_view_of
   pose_of-inside v c h k =
-      ap (λ (l : List (Option Pose)). get_or l c none) (view_rust_grid_of v h) ∙ get_d_tabulate s.cameras (rust_cell_of s buffer v) none c k
+      ap (λ (l : List (Option Pose)). get_or l c None) (view_rust_grid_of v h) ∙ get_d_tabulate s.cameras (rust_cell_of s buffer v) None c k
 
   -- Outside the sizes there is no pose.
-  pose_of-outside_view : (v c : ℕ) → s.views ≤ v → pose_of grid v c ≡ none
+  pose_of-outside_view : (v c : ℕ) → s.views ≤ v → pose_of grid v c ≡ None
   unfolding rust_grid_of
-  pose_of-outside_view v c h = ap (λ (l : List (Option Pose)). get_or l c none) (get_or-tabulate_past s.views (rust_view_of s buffer) [] v h)
+  pose_of-outside_view v c h = ap (λ (l : List (Option Pose)). get_or l c None) (get_or-tabulate_past s.views (rust_view_of s buffer) [] v h)
 
-  pose_of-outside_camera : (v c : ℕ) → v < s.views → s.cameras ≤ c → pose_of grid v c ≡ none
+  pose_of-outside_camera : (v c : ℕ) → v < s.views → s.cameras ≤ c → pose_of grid v c ≡ None
   unfolding rust_view_of
   pose_of-outside_camera v c h k =
-      ap (λ (l : List (Option Pose)). get_or l c none) (view_rust_grid_of v h) ∙ get_or-tabulate_past s.cameras (rust_cell_of s buffer v) none c k
+      ap (λ (l : List (Option Pose)). get_or l c None) (view_rust_grid_of v h) ∙ get_or-tabulate_past s.cameras (rust_cell_of s buffer v) None c k
 
-  rig_cell_rust : (v c : ℕ) → rig_cell (rig_of (held_of s)) buffer v c ≡ cell_for (rust_cell_of s buffer v c)
+  rig_cell_rust : (v c : ℕ) → rig_cell (rig_of (held_of s)) buffer v c ≡ rust_cell_of s buffer v c
   unfolding rig_cell masked_cell rust_cell_of
-  rig_cell_rust v c = sym (cell_for_cond (in_mask (get_or s.masks c 0) v) (pose_at buffer (cell_start v c)))
+  rig_cell_rust v c = refl
 
   module _ (some_view : 0 < s.views) where
     cameras-rust_grid_of : num_cameras grid ≡ s.cameras
@@ -116,7 +110,7 @@ module _ (s : Session) (buffer : List Float) where
         ∙ sym (mark_for-cond (in_mask (get_or s.masks c 0) v) (pose_at buffer (cell_start v c)))
         ∙ ap mark_for (sym (pose_of-inside v c h k))
 
-    cell_pose : (v c : ℕ) → v < s.views → c < s.cameras → (p : Pose) → pose_of grid v c ≡ some p → pose_at (floats_of s buffer) (7 * (v * s.cameras + c)) ≡ p
+    cell_pose : (v c : ℕ) → v < s.views → c < s.cameras → (p : Pose) → pose_of grid v c ≡ Some p → pose_at (floats_of s buffer) (7 * (v * s.cameras + c)) ≡ p
     unfolding rust_cell_of
     cell_pose v c h k p e =
         pose_at-floats_of s buffer (v * s.cameras + c) (row_inside v s.views s.cameras c h k)
@@ -153,12 +147,12 @@ module _ (s : Session) (buffer : List Float) where
             second_fits = omega (arith, cameras-rust_grid_of, sizes.cameras_fit);
           }
 
-      module _ (finite : not_finite (session_grid (held_of s) buffer) ≡ none) where
+      module _ (finite : not_finite (session_grid (held_of s) buffer) ≡ None) where
         cell_finite : (v c : ℕ) → v < s.views → c < s.cameras → is_not_finite (rig_cell (rig_of (held_of s)) buffer v c) ≡ false
         unfolding not_finite lowest_not_finite rig_grid
         cell_finite v c h k =
             sym (ap is_not_finite (cell_of_rig_cell (rig_of (held_of s)) buffer v c h k))
-            ∙ lowest-none_fails (λ i. is_not_finite (get_or (session_grid (held_of s) buffer).cells i Empty)) (s.views * s.cameras) (v * s.cameras + c)
+            ∙ lowest-none_fails (λ i. is_not_finite (get_or (session_grid (held_of s) buffer).cells i None)) (s.views * s.cameras) (v * s.cameras + c)
             (refuse_at-nothing (lowest_not_finite (session_grid (held_of s) buffer)) NotFinite finite) (row_inside v s.views s.cameras c h k)
 
         -- "every grid of finite poses within document 01's limits"
@@ -171,10 +165,10 @@ module _ (s : Session) (buffer : List Float) where
               finite_poses = λ v c p e. go v c p (dec_lt v s.views) (dec_lt c s.cameras) e;
             }
           where
-            absent : (v c : ℕ) (p : Pose) → pose_of grid v c ≡ none → pose_of grid v c ≡ some p → T (finite_pose p)
+            absent : (v c : ℕ) (p : Pose) → pose_of grid v c ≡ None → pose_of grid v c ≡ Some p → T (finite_pose p)
             absent v c p e f = let z : ◌≡◌ {A = ℕ} 0 1 = cc in absurd (omega arith)
 
-            go : (v c : ℕ) (p : Pose) → Dec (v < s.views) → Dec (c < s.cameras) → pose_of grid v c ≡ some p → T (finite_pose p)
+            go : (v c : ℕ) (p : Pose) → Dec (v < s.views) → Dec (c < s.cameras) → pose_of grid v c ≡ Some p → T (finite_pose p)
             go v c p (yes h) (yes k) e =
                 finite_cond (in_mask (get_or s.masks c 0) v) (pose_at buffer (cell_start v c)) p (cell_finite v c h k) (sym (pose_of-inside v c h k) ∙ e)
             go v c p (yes h) (no k) e = absent v c p (pose_of-outside_camera v c h (omega arith)) e

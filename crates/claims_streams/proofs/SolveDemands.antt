@@ -3,7 +3,7 @@
 -- grid that they hold. Assumes nothing.
 use Prim.Native.Nat.{◌<◌}
 use mathlib.Core.Path.{◌≡◌, sym, ap, ◌∙◌}
-use mathlib.Core.Option.{none}
+use Rattle.std.specs.Prelude.{None}
 use lib.ListN.{length}
 use Rattle.placing.specs.Grid.{Grid}
 use Rattle.extrinsics.specs.Outcome.{not_finite}
@@ -24,7 +24,7 @@ use Rattle.claims_streams.proofs.SolveDirect.{grid_is_direct, inputs_pass}
 
 module _ (t : State) (u : Usable t) (some_view : 0 < t.session.views) where
   -- A session that accepted commands left passes 1 to 6; 7 is its own.
-  pub solve_passes_before_8 : not_finite (session_grid (held_of t.session) t.buffer) ≡ none
+  pub solve_passes_before_8 : not_finite (session_grid (held_of t.session) t.buffer) ≡ None
       → PassesBefore8 (counts_of t.session) (marks_of t.session) (floats_of t.session t.buffer) t.session.reference (length t.first) (length t.second)
   solve_passes_before_8 finite =
       record {
@@ -33,13 +33,13 @@ module _ (t : State) (u : Usable t) (some_view : 0 < t.session.views) where
         passes_7 = sym (ap (λ (g : Grid). not_finite g) (grid_is_direct t.session t.buffer some_view)) ∙ finite;
       }
 
-  pub solve_well_formed : not_finite (session_grid (held_of t.session) t.buffer) ≡ none
+  pub solve_well_formed : not_finite (session_grid (held_of t.session) t.buffer) ≡ None
       → WellFormed (counts_of t.session) (marks_of t.session) (floats_of t.session t.buffer) t.session.reference (length t.first) (length t.second)
   solve_well_formed finite =
       (passes_before_8 (counts_of t.session) (marks_of t.session) (floats_of t.session t.buffer) t.session.reference (length t.first)
       (length t.second)).0 (solve_passes_before_8 finite)
 
-  pub solve_demand_3 : not_finite (session_grid (held_of t.session) t.buffer) ≡ none → (d : AsDirect t (answer_to t solve))
+  pub solve_demand_3 : not_finite (session_grid (held_of t.session) t.buffer) ≡ None → (d : AsDirect t (answer_to t solve))
       → Demand3 (counts_of t.session) (marks_of t.session) (floats_of t.session t.buffer) t.session.reference d.outcome
       (answer_to t solve).after.first (answer_to t solve).after.second
   solve_demand_3 finite d =
@@ -48,7 +48,7 @@ module _ (t : State) (u : Usable t) (some_view : 0 < t.session.views) where
 
   -- Demand 2, "every grid of finite poses within document 01's limits": Solve answers on the grid that masks and buffer hold as the Rust
   -- function does.
-  pub solve_demand_2 : not_finite (session_grid (held_of t.session) t.buffer) ≡ none → (d : AsDirect t (answer_to t solve))
+  pub solve_demand_2 : not_finite (session_grid (held_of t.session) t.buffer) ≡ None → (d : AsDirect t (answer_to t solve))
       → CallAgrees (estimate_extrinsics_from_cam_target_poses (rust_grid_of t.session t.buffer) t.session.reference) t.first t.second
       d.outcome (answer_to t solve).after.first (answer_to t solve).after.second
   solve_demand_2 finite d =

@@ -6,7 +6,7 @@ use native.Mathlib.Decide.{dec_lt}
 use native.Mathlib.Omega.{arith}
 use mathlib.Core.Path.{◌≡◌, refl, sym, ap, ap₂, ◌∙◌}
 use mathlib.Core.Bool.{Bool, true, false, not, cond}
-use mathlib.Core.Option.{Option, none, some}
+use Rattle.std.specs.Prelude.{Option, None, Some}
 use mathlib.Core.List.{List, [], ◌∷◌, ◌++◌}
 use lib.ListN.{length, get_or, length-replicate, get_or-replicate, get_or-append}
 use lib.Seq.{get_or-append-add}
@@ -27,8 +27,7 @@ use Rattle.refusal.specs.declared.Refusal.{Refusal}
 use Rattle.refusal.specs.declared.Refusal.TheVariants.{CountDiffers, BadMark, NoSize}
 use Rattle.inputs.specs.Inputs.{size_refusal, cell_count, lowest_other_count, count_refusal, length_refusal, lowest_bad_mark, mark_refusal, input_refusal}
 use Rattle.extrinsics.specs.Direct.{marked_cell, direct_grid, direct_refusal}
-use Rattle.placing.specs.declared.grid.Cell.{Cell}
-use Rattle.placing.specs.declared.grid.Cell.TheVariants.{Empty, Held}
+use Rattle.placing.specs.Grid.{Cell}
 use Rattle.inputs.proofs.Answering.{refuse_at-none, first_of_none, Sizes, size_refusal-sizes}
 use Rattle.lists.proofs.Lowest.{lowest-nothing}
 use Rattle.lists.proofs.Blocks.{length-gather}
@@ -38,13 +37,13 @@ use Rattle.session_record.specs.Session.{held_of, cell_start, has_size, rig_of, 
 use Rattle.session_commands.specs.Commands.{command_refusal, session_after, buffer_after}
 use Rattle.session_commands.specs.Obeyed.{first_length, second_length, State, reply_to, first_after, second_after, state_after}
 use Rattle.claims_streams.specs.Stream.{answer, answer_to, state_after_all, Usable}
-use Rattle.session_commands.specs.declared.Reply.TheVariants.{Refused}
 use Rattle.claims_streams.specs.DirectInputs.{counts_of, marks_of, floats_of, reply_of, AsDirect}
 use Rattle.session_record.specs.declared.Session.{Session}
 use Rattle.claims_streams.proofs.Accepting.{refuse_if_false, first_of_all_none, solve_checks}
 use Rattle.claims_streams.proofs.Cells.{pose_at-flat}
 use Rattle.claims_streams.proofs.Sound.{has_sizes, sound_of_possible}
 use Rattle.claims_streams.proofs.Usable.{answer_to-accepted, answer_to-refused, usable_after_all}
+use Rattle.std.specs.Prelude.{Err}
 
 -- ---- blocks of seven
 
@@ -63,7 +62,7 @@ get_or-gather f each (suc n) i k h l = go (dec_lt i n) (get_or-gather f each n i
 
 -- ---- the grid
 
-held-or-empty : (b : Bool) (p : Pose) → cond b (Held p) Empty ≡ cond (eqb (cond b 1 0) 0) Empty (Held p)
+held-or-empty : (b : Bool) (p : Pose) → cond b (Some p) None ≡ cond (eqb (cond b 1 0) 0) None (Some p)
 held-or-empty true p = refl
 held-or-empty false p = refl
 
@@ -97,7 +96,7 @@ module _ (s : Session) (buffer : List Float) where
   unfolding rig_cell masked_cell marked_cell
   rig_cell-marked i h =
       held-or-empty (in_mask (get_or s.masks (i % s.cameras) 0) (i / s.cameras)) (pose_at buffer (cell_start (i / s.cameras) (i % s.cameras)))
-      ∙ ap₂ (λ (m : ℕ) (p : Pose). cond (eqb m 0) Empty (Held p))
+      ∙ ap₂ (λ (m : ℕ) (p : Pose). cond (eqb m 0) None (Some p))
       (sym (mark_at s i h)) (sym (pose_at-floats_of i h))
 
   pub length-floats_of : length (floats_of s buffer) ≡ 7 * cells
@@ -130,12 +129,12 @@ module _ (s : Session) (buffer : List Float) where
       sizes : Sizes s.views s.cameras s.reference
       sizes = has_sizes s (sound_of_possible s allowed) some_view
 
-      sizes_pass : size_refusal (length (counts_of s)) (get_or (counts_of s) 0 0) s.reference ≡ none
+      sizes_pass : size_refusal (length (counts_of s)) (get_or (counts_of s) 0 0) s.reference ≡ None
       sizes_pass =
           ap₂ (λ (v c : ℕ). size_refusal v c s.reference) length-counts_of first-counts_of
           ∙ size_refusal-sizes s.views s.cameras s.reference sizes
 
-      counts_pass : count_refusal (counts_of s) ≡ none
+      counts_pass : count_refusal (counts_of s) ≡ None
       unfolding count_refusal lowest_other_count
       counts_pass =
           refuse_at-none (lowest_other_count (counts_of s)) CountDiffers
@@ -145,7 +144,7 @@ module _ (s : Session) (buffer : List Float) where
       cell_count-counts_of : cell_count (counts_of s) ≡ cells
       cell_count-counts_of = ap₂ (λ (v c : ℕ). v * c) length-counts_of first-counts_of
 
-      lengths_pass : length_refusal (length (counts_of s)) (get_or (counts_of s) 0 0) (length (marks_of s)) (length (floats_of s buffer)) first_room second_room ≡ none
+      lengths_pass : length_refusal (length (counts_of s)) (get_or (counts_of s) 0 0) (length (marks_of s)) (length (floats_of s buffer)) first_room second_room ≡ None
       unfolding length_refusal refuse_if
       lengths_pass =
           rw (
@@ -157,7 +156,7 @@ module _ (s : Session) (buffer : List Float) where
             le-ltb second_room (second_needs s.cameras) (omega (arith, sizes.cameras_fit)),
           )
 
-      marks_pass : mark_refusal (cell_count (counts_of s)) (marks_of s) ≡ none
+      marks_pass : mark_refusal (cell_count (counts_of s)) (marks_of s) ≡ None
       unfolding mark_refusal lowest_bad_mark
       marks_pass =
           refuse_at-none (lowest_bad_mark (cell_count (counts_of s)) (marks_of s)) BadMark
@@ -165,7 +164,7 @@ module _ (s : Session) (buffer : List Float) where
           (λ i h. le-ltb 1 (get_or (marks_of s) i 0) (mark_small s i (omega (arith, cell_count-counts_of)))))
 
       -- The direct call's checks 1 to 6 find nothing.
-      pub inputs_pass : input_refusal (counts_of s) (marks_of s) (length (floats_of s buffer)) s.reference first_room second_room ≡ none
+      pub inputs_pass : input_refusal (counts_of s) (marks_of s) (length (floats_of s buffer)) s.reference first_room second_room ≡ None
       unfolding input_refusal
       inputs_pass =
           first_of_all_none
@@ -201,7 +200,7 @@ module _ (t : State) (u : Usable t) (some_view : 0 < t.session.views) where
   abbrev own : Grid
   own = direct_grid (counts_of t.session) (marks_of t.session) (floats_of t.session t.buffer) t.session.reference
 
-  as_direct_solved : refusal ≡ none → AsDirect t (answer (reply_to solve) (state_after t solve))
+  as_direct_solved : refusal ≡ None → AsDirect t (answer (reply_to solve) (state_after t solve))
   unfolding reply_of outcome_of reply_to state_after session_after buffer_after first_after second_after
   as_direct_solved e =
       let same = grid_is_direct t.session t.buffer some_view in
@@ -217,7 +216,7 @@ module _ (t : State) (u : Usable t) (some_view : 0 < t.session.views) where
         same_buffer = refl;
       }
 
-  as_direct-refused : (r : Refusal) → refusal ≡ some r → AsDirect t (answer (Refused r) t)
+  as_direct-refused : (r : Refusal) → refusal ≡ Some r → AsDirect t (answer (Err r) t)
   unfolding reply_of outcome_of answered
   as_direct-refused r e =
       record {
@@ -237,8 +236,8 @@ module _ (t : State) (u : Usable t) (some_view : 0 < t.session.views) where
   solve_as_direct = go refusal refl
     where
       go : (o : Option Refusal) → refusal ≡ o → AsDirect t (answer_to t solve)
-      go none e = rw (answer_to-accepted t solve (same_refusal ∙ e)) (as_direct_solved e)
-      go (some r) e = rw (answer_to-refused t solve r (same_refusal ∙ e)) (as_direct-refused r e)
+      go None e = rw (answer_to-accepted t solve (same_refusal ∙ e)) (as_direct_solved e)
+      go (Some r) e = rw (answer_to-refused t solve r (same_refusal ∙ e)) (as_direct-refused r e)
 
 -- After any commands, once a Size was accepted.
 pub solve-after : (t : State) → Usable t → (before : List Command) → 0 < (state_after_all t before).session.views

@@ -2,7 +2,7 @@
 -- the session then stands for; where every held number is finite, it is what demands 2 and 3 ask. Assumes nothing.
 use Prim.Native.Nat.{ℕ, ◌≤◌, ◌<◌}
 use mathlib.Core.Path.{◌≡◌, refl, sym, ap, subst, ◌∙◌}
-use mathlib.Core.Option.{none}
+use Rattle.std.specs.Prelude.{None}
 use mathlib.Core.List.{List, [], ◌∷◌, ◌++◌, append_assoc}
 use lib.ListN.{length, get_or}
 use lib.Seq.{get_or_at}
@@ -60,7 +60,7 @@ module _ (t : State) (u : Usable t) (stream : List ℕ) (short : length stream �
     solve_in_stream-direct outside = subst (AsDirect then) (sym (answer_of_solve outside)) (solve-after t u before some_view)
 
     -- Where every held number is finite, as both demands ask.
-    pub solve_in_stream : not_finite (session_grid (held_of (state_after_all t before).session) (state_after_all t before).buffer) ≡ none
+    pub solve_in_stream : not_finite (session_grid (held_of (state_after_all t before).session) (state_after_all t before).buffer) ≡ None
         → (outside : Answer) → AsDemanded (state_after_all t before) (get_or (calls t stream) (length before) outside)
     solve_in_stream finite outside =
         let direct : AsDirect then (answer_to then solve) = solve-after t u before some_view in

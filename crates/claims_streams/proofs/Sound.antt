@@ -6,7 +6,7 @@ use native.Mathlib.Omega.{arith}
 use mathlib.Core.Path.{◌≡◌, refl, sym, ap, subst}
 use mathlib.Core.Logic.{◌↔◌, ◌⊎◌, inl, inr, ⊎_elim}
 use mathlib.Core.Bool.{Bool, true, false, ◌&&◌, ◌||◌, cond}
-use mathlib.Core.Option.{Option, none, some}
+use Rattle.std.specs.Prelude.{Option, None, Some, is_none}
 use lib.ListN.{get_or, get_or-replicate}
 use lib.Dec.{T, eqb, ltb, eqb→eq, ltb→lt, lt→ltb}
 use borrow.Author.Tests.{lt-ltb, le-ltb}
@@ -17,7 +17,7 @@ use Rattle.inputs.proofs.Answering.{Sizes, size_refusal-none, size_refusal-sizes
 use Rattle.lists.specs.Finding.{all_below}
 use Rattle.shared_counts.specs.Summary.{summary_of, is_summary}
 use Rattle.shared_counts.proofs.Summaries.{summary_of_is_summary, is_summary_of_summary, summary_of_nothing}
-use Rattle.session_record.specs.Session.{held_of, session_of, summed, fresh, is_none, possible_sizes, mask_fits, possible_masks, possible_held, possible}
+use Rattle.session_record.specs.Session.{held_of, session_of, summed, fresh, possible_sizes, mask_fits, possible_masks, possible_held, possible}
 use Rattle.session_record.specs.declared.Session.{Session}
 
 -- ---- what the check asks, as plain facts
@@ -47,10 +47,9 @@ T-or : (a b : Bool) → T (a || b) ↔ (T a ⊎ T b)
 T-or true b = (λ t. inl tt, λ h. tt)
 T-or false b = (λ t. inr t, λ h. ⊎_elim (λ t. absurd t) (λ t. t) h)
 
-T-is_none : (o : Option Refusal) → T (is_none o) ↔ (o ≡ none)
-unfolding is_none
-T-is_none none = (λ t. refl, λ e. tt)
-T-is_none (some r) = (λ t. absurd t, λ e. let f : true ≡ false = cc in subst T f tt)
+T-is_none : (o : Option Refusal) → T (is_none o) ↔ (o ≡ None)
+T-is_none None = (λ t. refl, λ e. tt)
+T-is_none (Some r) = (λ t. absurd t, λ e. let f : true ≡ false = cc in subst T f tt)
 
 all_below_each : (test : ℕ → Bool) (n : ℕ) → T (all_below test n) ↔ ((i : ℕ) → i < n → T (test i))
 unfolding all_below

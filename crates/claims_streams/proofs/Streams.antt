@@ -6,7 +6,7 @@ use native.Mathlib.Decide.{ℕ_discrete}
 use native.Mathlib.Omega.{arith}
 use mathlib.Core.Path.{◌≡◌, refl, sym, ap, subst, ◌∙◌}
 use mathlib.Core.Bool.{Bool, true, false, not}
-use mathlib.Core.Option.{Option, none, some}
+use Rattle.std.specs.Prelude.{Option, None, Some}
 use mathlib.Core.List.{List, [], ◌∷◌, ◌++◌}
 use lib.ListN.{length}
 use lib.Dec.{eqb, ltb}
@@ -27,13 +27,14 @@ use Rattle.session_commands.specs.Obeyed.{State, Result, result, reply_to, obeye
 use Rattle.session.specs.Call.{max_stream, call_refusal, stopped, read, call, unusable}
 use Rattle.claims_streams.specs.Stream.{Contents, contents, contents_from, rest_of, contents_of, Answer, answer, answer_to, answers, state_after_all, last_state, stream_refusal, ending_reply, answers_of, meaning, ends_stream, calls_from, calls, Usable}
 use Rattle.session_record.specs.declared.Session.{Session}
-use Rattle.session_commands.specs.declared.Reply.TheVariants.{End, Refused}
 use Rattle.command.proofs.Decoding.{parse-complete}
 use Rattle.claims_streams.proofs.Accepting.{first_of_all_none, refuse_if_false, solve_checks}
 use Rattle.claims_streams.proofs.Edits.Law.{GoesOn}
 use Rattle.claims_streams.proofs.Edits.All.{edit_law}
 use Rattle.claims_streams.proofs.Contents.{contents_from-none, contents_from_end, contents_from-complete, contents_from-broken, contents_from-unknown}
 use Rattle.claims_streams.proofs.Usable.{usable_of_check, check_of_usable, usable_answer, answer_to-accepted, answer_to-refused}
+use Rattle.std.specs.Prelude.{Err, Ok}
+use Rattle.session_commands.specs.declared.Done.TheVariants.{End}
 
 -- ---- a command's refusal does not end the stream
 
@@ -67,8 +68,8 @@ command_goes_on t command = go (command_refusal (held_of t.session) t.buffer com
   where
     go : (o : Option Refusal) → command_refusal (held_of t.session) t.buffer command ≡ o → If GoesOn (command_refusal (held_of t.session) t.buffer command)
         → ends_stream (answer_to t command).reply ≡ false
-    go none e g = rw (answer_to-accepted t command e) (obeyed_goes_on command)
-    go (some r) e g = rw (answer_to-refused t command r e) (subst (If GoesOn) e g)
+    go None e g = rw (answer_to-accepted t command e) (obeyed_goes_on command)
+    go (Some r) e g = rw (answer_to-refused t command r e) (subst (If GoesOn) e g)
 
 -- ---- one call
 
@@ -89,30 +90,30 @@ module _ (t : State) (stream : List ℕ) (at : ℕ) where
   unfolding stream_refusal
   stream_refusal_checks = refl
 
-  pub call_refusal_passes : stream_refusal t stream ≡ none → at ≤ length stream → call_refusal t stream at ≡ none
+  pub call_refusal_passes : stream_refusal t stream ≡ None → at ≤ length stream → call_refusal t stream at ≡ None
   call_refusal_passes e h =
       let (long, (wrong, _)) = first_of_none_all _ (sym stream_refusal_checks ∙ e) in
       call_refusal_checks ∙ first_of_all_none call_checks (long, (wrong, (refuse_if_false _ _ (le-ltb (length stream) at h), tt)))
 
-  pub call_refusal_refuses : (r : Refusal) → stream_refusal t stream ≡ some r → call_refusal t stream at ≡ some r
+  pub call_refusal_refuses : (r : Refusal) → stream_refusal t stream ≡ Some r → call_refusal t stream at ≡ Some r
   unfolding first_of
   call_refusal_refuses r e =
       call_refusal_checks
       ∙ go (refuse_if (ltb max_stream (length stream)) TooLong) (refuse_if (unusable t) WrongLength) (refuse_if (ltb (length stream) at) (Truncated (length stream)))
       (sym stream_refusal_checks ∙ e)
     where
-      go : (a b c : Option Refusal) → first_of (a ∷ b ∷ []) ≡ some r → first_of (a ∷ b ∷ c ∷ []) ≡ some r
-      go none none c f = cc
-      go none (some q) c f = f
-      go (some q) b c f = f
+      go : (a b c : Option Refusal) → first_of (a ∷ b ∷ []) ≡ Some r → first_of (a ∷ b ∷ c ∷ []) ≡ Some r
+      go None None c f = cc
+      go None (Some q) c f = f
+      go (Some q) b c f = f
 
   -- "5, 10, 11 and 13 end the stream: the next offset is then its length", whatever the offset of the call.
-  pub call-refused : (r : Refusal) → stream_refusal t stream ≡ some r → call t stream at ≡ stopped t stream r
+  pub call-refused : (r : Refusal) → stream_refusal t stream ≡ Some r → call t stream at ≡ stopped t stream r
   unfolding call
   call-refused r e = rw (call_refusal_refuses r e, call)
 
-  module _ (passes : stream_refusal t stream ≡ none) where
-    pub call_end : at ≡ length stream → call t stream at ≡ result End t at
+  module _ (passes : stream_refusal t stream ≡ None) where
+    pub call_end : at ≡ length stream → call t stream at ≡ result (Ok End) t at
     unfolding call
     call_end e = rw (call_refusal_passes passes (omega arith), call, eq-eqb at (length stream) e)
 
@@ -120,13 +121,13 @@ module _ (t : State) (stream : List ℕ) (at : ℕ) where
     unfolding call
     call_reads h = rw (call_refusal_passes passes (omega arith), call, ne_eqb at (length stream) (omega arith))
 
-pub passes_of_usable : (t : State) (stream : List ℕ) → length stream ≤ max_stream → Usable t → stream_refusal t stream ≡ none
+pub passes_of_usable : (t : State) (stream : List ℕ) → length stream ≤ max_stream → Usable t → stream_refusal t stream ≡ None
 passes_of_usable t stream short u =
     stream_refusal_checks t stream 0
     ∙ first_of_all_none _
     (refuse_if_false (ltb max_stream (length stream)) TooLong (le-ltb max_stream (length stream) short), (refuse_if_false _ _ (check_of_usable t u), tt))
 
-pub usable_of_passes : (t : State) (stream : List ℕ) → stream_refusal t stream ≡ none → (length stream ≤ max_stream) × Usable t
+pub usable_of_passes : (t : State) (stream : List ℕ) → stream_refusal t stream ≡ None → (length stream ≤ max_stream) × Usable t
 usable_of_passes t stream e =
     let (long, (wrong, _)) = first_of_none_all _ (sym (stream_refusal_checks t stream 0) ∙ e) in
     (ltb-false _ _ (refuse_if-none _ _ long), usable_of_check t (refuse_if-none _ _ wrong))
@@ -138,8 +139,8 @@ obeyed-answer_to t command next = go (command_refusal (held_of t.session) t.buff
   where
     go : (o : Option Refusal) → command_refusal (held_of t.session) t.buffer command ≡ o
         → obeyed t command next ≡ result (answer_to t command).reply (answer_to t command).after next
-    go none e = rw (e, obeyed, answer_to-accepted t command e)
-    go (some r) e = rw (e, obeyed, answer_to-refused t command r e)
+    go None e = rw (e, obeyed, answer_to-accepted t command e)
+    go (Some r) e = rw (e, obeyed, answer_to-refused t command r e)
 
 -- ---- calls in a row
 
@@ -230,25 +231,25 @@ module _ (stream : List ℕ) (short : length stream ≤ max_stream) where
 
 -- ---- 13 and 5
 
-pub meaning-refused : (t : State) (stream : List ℕ) (r : Refusal) → stream_refusal t stream ≡ some r → meaning t stream ≡ answer (Refused r) t ∷ []
+pub meaning-refused : (t : State) (stream : List ℕ) (r : Refusal) → stream_refusal t stream ≡ Some r → meaning t stream ≡ answer (Err r) t ∷ []
 unfolding meaning
 meaning-refused t stream r e = rw (e, meaning)
 
-pub meaning_passes : (t : State) (stream : List ℕ) → stream_refusal t stream ≡ none → meaning t stream ≡ answers_of t (contents_of stream)
+pub meaning_passes : (t : State) (stream : List ℕ) → stream_refusal t stream ≡ None → meaning t stream ≡ answers_of t (contents_of stream)
 unfolding meaning
 meaning_passes t stream e = rw (e, meaning)
 
 -- 13 or 5 ends the stream.
-refusal-ends : (t : State) (stream : List ℕ) (r : Refusal) → stream_refusal t stream ≡ some r → ends_stream (Refused r) ≡ true
+refusal-ends : (t : State) (stream : List ℕ) (r : Refusal) → stream_refusal t stream ≡ Some r → ends_stream (Err r) ≡ true
 unfolding ends_stream first_of refuse_if
 refusal-ends t stream r e = go (ltb max_stream (length stream)) (unusable t) (sym (stream_refusal_checks t stream 0) ∙ e)
   where
-    go : (a b : Bool) → first_of (refuse_if a TooLong ∷ refuse_if b WrongLength ∷ []) ≡ some r → ends_stream (Refused r) ≡ true
+    go : (a b : Bool) → first_of (refuse_if a TooLong ∷ refuse_if b WrongLength ∷ []) ≡ Some r → ends_stream (Err r) ≡ true
     go true b f = let same : TooLong ≡ r = cc in rw (← same)
     go false true f = let same : WrongLength ≡ r = cc in rw (← same)
     go false false f = cc
 
-calls-refused : (t : State) (stream : List ℕ) (r : Refusal) → stream_refusal t stream ≡ some r → calls t stream ≡ answer (Refused r) t ∷ []
+calls-refused : (t : State) (stream : List ℕ) (r : Refusal) → stream_refusal t stream ≡ Some r → calls t stream ≡ answer (Err r) t ∷ []
 unfolding calls
 calls-refused t stream r e =
     calls_from-ends (length stream) t stream 0 (stopped t stream r) (call-refused t stream 0 r e) (refusal-ends t stream r e)
@@ -267,41 +268,41 @@ pub calls_give_meaning : (t : State) (stream : List ℕ) → calls t stream ≡ 
 calls_give_meaning t stream = go (stream_refusal t stream) refl
   where
     go : (o : Option Refusal) → stream_refusal t stream ≡ o → calls t stream ≡ meaning t stream
-    go none e =
+    go None e =
         let (short, u) = usable_of_passes t stream e in
         calls_give_answers t stream short u ∙ sym (meaning_passes t stream e)
-    go (some r) e = calls-refused t stream r e ∙ sym (meaning-refused t stream r e)
+    go (Some r) e = calls-refused t stream r e ∙ sym (meaning-refused t stream r e)
 
 -- 13: every call on a stream of more than 65,536 bytes, whatever the state and the offset, changes nothing and tells the length as the
 -- next offset; and that is the stream's one answer.
 module _ (t : State) (stream : List ℕ) (long : max_stream < length stream) where
-  refused_too_long : stream_refusal t stream ≡ some TooLong
+  refused_too_long : stream_refusal t stream ≡ Some TooLong
   unfolding stream_refusal first_of refuse_if
   refused_too_long = rw (lt-ltb max_stream (length stream) long)
 
   pub call_too_long : (at : ℕ) → call t stream at ≡ stopped t stream TooLong
   call_too_long at = call-refused t stream at TooLong refused_too_long
 
-  pub meaning_too_long : meaning t stream ≡ answer (Refused TooLong) t ∷ []
+  pub meaning_too_long : meaning t stream ≡ answer (Err TooLong) t ∷ []
   meaning_too_long = meaning-refused t stream TooLong refused_too_long
 
-second_refuses : (a b : Bool) → a ≡ false → b ≡ true → first_of (refuse_if a TooLong ∷ refuse_if b WrongLength ∷ []) ≡ some WrongLength
+second_refuses : (a b : Bool) → a ≡ false → b ≡ true → first_of (refuse_if a TooLong ∷ refuse_if b WrongLength ∷ []) ≡ Some WrongLength
 unfolding first_of refuse_if
 second_refuses a b e f = rw (e, f)
 
 -- 5: so does every call in a state that does not pass, on any other stream.
 module _ (t : State) (stream : List ℕ) (short : length stream ≤ max_stream) (wrong : Usable t → ⊥) where
-  refused_wrong_length : stream_refusal t stream ≡ some WrongLength
+  refused_wrong_length : stream_refusal t stream ≡ Some WrongLength
   refused_wrong_length = go (unusable t) refl
     where
-      go : (b : Bool) → unusable t ≡ b → stream_refusal t stream ≡ some WrongLength
+      go : (b : Bool) → unusable t ≡ b → stream_refusal t stream ≡ Some WrongLength
       go true e = stream_refusal_checks t stream 0 ∙ second_refuses _ _ (le-ltb max_stream (length stream) short) e
       go false e = absurd (wrong (usable_of_check t e))
 
   pub call_wrong_length : (at : ℕ) → call t stream at ≡ stopped t stream WrongLength
   call_wrong_length at = call-refused t stream at WrongLength refused_wrong_length
 
-  pub meaning_wrong_length : meaning t stream ≡ answer (Refused WrongLength) t ∷ []
+  pub meaning_wrong_length : meaning t stream ≡ answer (Err WrongLength) t ∷ []
   meaning_wrong_length = meaning-refused t stream WrongLength refused_wrong_length
 
 -- ---- after the last call

@@ -5,7 +5,7 @@ use Prim.Native.Nat.{ℕ, zero, suc, ◌+◌, ◌-◌, ◌≤◌, ◌<◌}
 use native.Mathlib.Decide.{ℕ_discrete}
 use native.Mathlib.Omega.{arith}
 use mathlib.Core.Path.{◌≡◌, refl, sym, ap, ap₂, ◌∙◌}
-use mathlib.Core.Option.{some}
+use Rattle.std.specs.Prelude.{Some}
 use mathlib.Core.List.{List, [], ◌∷◌, ◌++◌, append_assoc}
 use lib.ListN.{length, take, drop, get_or, length-append, length-drop, get_or-append}
 use lib.Seq.{get_or-take, length-take-le, take_at, drop_at}
@@ -17,11 +17,11 @@ use Rattle.session_commands.specs.Commands.{command_refusal}
 use Rattle.session_commands.specs.Obeyed.{State}
 use Rattle.session.specs.Call.{max_stream}
 use Rattle.claims_streams.specs.Stream.{Contents, contents, contents_from, rest_of, contents_of, Reads, nothing, one_more, struck, earlier, Answer, answer, answer_to, answers, state_after_all, answers_of, ending_reply, meaning, Usable}
-use Rattle.session_commands.specs.declared.Reply.TheVariants.{Refused}
 use Rattle.command.proofs.Decoding.{parse-complete, parse-drop, parse_own}
 use Rattle.claims_streams.proofs.Contents.{contents_from-none, contents_from_end, contents_from-complete, contents_from-broken, contents_from-unknown, contents_from_enough, rest_of_command, rest_of_reads, reads_le}
 use Rattle.claims_streams.proofs.Streams.{passes_of_usable, answers_of-command, meaning_passes}
 use Rattle.claims_streams.proofs.Usable.{answer_to-refused}
+use Rattle.std.specs.Prelude.{Err}
 
 -- ---- commands
 
@@ -42,10 +42,10 @@ length-answers (command ∷ later) t = ap suc (length-answers later (answer_to t
 
 -- The command is refused with r after the commands before it.
 module _ (t : State) (before after : List Command) (command : Command) (r : Refusal)
-    (refused : command_refusal (held_of (state_after_all t before).session) (state_after_all t before).buffer command ≡ some r) where
+    (refused : command_refusal (held_of (state_after_all t before).session) (state_after_all t before).buffer command ≡ Some r) where
   -- Its answer stands between the answers to the commands before it and those after it.
   pub answers_with_refused : answers t (before ++ (command ∷ after))
-      ≡ answers t before ++ (answer (Refused r) (state_after_all t before) ∷ answers (state_after_all t before) after)
+      ≡ answers t before ++ (answer (Err r) (state_after_all t before) ∷ answers (state_after_all t before) after)
   unfolding answers
   answers_with_refused =
       answers-append t before (command ∷ after)
@@ -55,7 +55,7 @@ module _ (t : State) (before after : List Command) (command : Command) (r : Refu
   pub answers_without_refused : answers t (before ++ after)
       ≡ take (length before) (answers t (before ++ (command ∷ after))) ++ drop (suc (length before)) (answers t (before ++ (command ∷ after)))
   answers_without_refused =
-      let own = answer (Refused r) (state_after_all t before) in
+      let own = answer (Err r) (state_after_all t before) in
       let later = answers (state_after_all t before) after in
       answers-append t before after
       ∙ ap₂ ◌++◌ (sym (take_at (answers t before) (own ∷ later) (length before) (length-answers before t)))
@@ -172,10 +172,10 @@ module _ (stream : List ℕ) (before : List Command) (at : ℕ) (command : Comma
 
   -- In a state that passes the checks, and where the command is refused with r.
   module _ (t : State) (r : Refusal) (short : length stream ≤ max_stream) (usable : Usable t)
-      (refused : command_refusal (held_of (state_after_all t before).session) (state_after_all t before).buffer command ≡ some r) where
+      (refused : command_refusal (held_of (state_after_all t before).session) (state_after_all t before).buffer command ≡ Some r) where
     -- The answers to the commands before it, its own refusal, and the answers to all that follows.
     pub meaning_with : meaning t stream
-        ≡ answers t before ++ (answer (Refused r) (state_after_all t before) ∷ answers_of (state_after_all t before) (rest_of stream (at + width)))
+        ≡ answers t before ++ (answer (Err r) (state_after_all t before) ∷ answers_of (state_after_all t before) (rest_of stream (at + width)))
     meaning_with =
         let later = rest_of stream (at + width) in
         meaning_passes t stream (passes_of_usable t stream short usable)

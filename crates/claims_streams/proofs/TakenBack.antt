@@ -5,7 +5,7 @@ use native.Mathlib.Omega.{arith}
 use mathlib.Core.Path.{◌≡◌, refl, sym, ap, subst, ◌∙◌}
 use mathlib.Core.Logic.{◌⊎◌, ⊎_elim}
 use mathlib.Core.Bool.{Bool, true, false, true≢false}
-use mathlib.Core.Option.{Option, none, some}
+use Rattle.std.specs.Prelude.{Option, None, Some}
 use mathlib.Core.List.{List}
 use lib.ListN.{length, get_or, set}
 use lib.Seq.{get_or-set_same, set-get_or, set-set}
@@ -23,7 +23,6 @@ use Rattle.session_commands.specs.Commands.{edit_refusal, edit_session, edit_buf
 use Rattle.session_record.specs.declared.Session.{Session}
 use Rattle.session_commands.specs.Obeyed.{State, Result, result, reply_to, state_after, first_after, second_after, obeyed}
 use Rattle.session.specs.Call.{call_refusal, read, call}
-use Rattle.session_commands.specs.declared.Reply.TheVariants.{Accepted, Refused}
 use Rattle.session_commands.proofs.Obeying.{obeyed-refused, obeyed-accepted}
 use Rattle.session.proofs.Calling.{call-refused, call-read}
 use Rattle.claims_streams.specs.Stream.{Usable}
@@ -40,12 +39,14 @@ use Rattle.claims_streams.proofs.Alike.{meaning-alike, each-alike}
 use Rattle.claims_streams.proofs.Edits.Pose.{place-accepted, camera_fits, cell_fits, bit_here}
 use Rattle.claims_streams.proofs.Edits.Withdraw.{accepts_withdraw}
 use Rattle.claims_streams.proofs.Edits.All.{edit_law}
+use Rattle.std.specs.Prelude.{Err, Ok}
+use Rattle.session_commands.specs.declared.Done.TheVariants.{Accepted}
 
 -- ---- commands
 
-module _ (s : Session) (view camera : ℕ) (p : Pose) (inside : camera < length s.masks) (e : edit_refusal (held_of s) (place view camera p) ≡ none) where
+module _ (s : Session) (view camera : ℕ) (p : Pose) (inside : camera < length s.masks) (e : edit_refusal (held_of s) (place view camera p) ≡ None) where
   -- Its withdrawal is accepted as the next command.
-  pub withdrawal_accepted : edit_refusal (held_of (edit_session s (place view camera p))) (withdraw view camera) ≡ none
+  pub withdrawal_accepted : edit_refusal (held_of (edit_session s (place view camera p))) (withdraw view camera) ≡ None
   unfolding edit_session
   withdrawal_accepted =
       let here = place-accepted s view camera p e in
@@ -71,7 +72,7 @@ module _ (s : Session) (view camera : ℕ) (p : Pose) (inside : camera < length 
 
 -- In a state that can be used.
 module _ (t : State) (u : Usable t) (sixteen : length t.session.masks ≡ max_cameras) (view camera : ℕ) (p : Pose)
-    (e : command_refusal (held_of t.session) t.buffer (edit (place view camera p)) ≡ none) where
+    (e : command_refusal (held_of t.session) t.buffer (edit (place view camera p)) ≡ None) where
   abbrev held : State
   held = state_after t (edit (place view camera p))
 
@@ -82,7 +83,7 @@ module _ (t : State) (u : Usable t) (sixteen : length t.session.masks ≡ max_ca
   unfolding command_refusal
   known = omega (arith, camera_fits t.session view camera p (sound_of_possible t.session u.record_possible) e, sixteen)
 
-  pub withdrawal_passes : command_refusal (held_of held.session) held.buffer (edit (withdraw view camera)) ≡ none
+  pub withdrawal_passes : command_refusal (held_of held.session) held.buffer (edit (withdraw view camera)) ≡ None
   unfolding command_refusal state_after session_after
   withdrawal_passes = withdrawal_accepted t.session view camera p known e
 
@@ -122,47 +123,47 @@ module _ (t : State) (u : Usable t) (sixteen : length t.session.masks ≡ max_ca
 
 -- ---- calls
 
-refused-not-accepted : (q : Refusal) → Refused q ≡ Accepted → ⊥
+refused-not-accepted : (q : Refusal) → Err q ≡ Ok Accepted → ⊥
 refused-not-accepted q e = let z : ◌≡◌ {A = ℕ} 0 1 = cc in omega arith
 
 -- A command that the stream ends within is refused.
-cut_not-accepted : (t : State) (stream : List ℕ) (at : ℕ) → at < length stream → parse stream at ≡ broken → (call t stream at).reply ≡ Accepted → ⊥
+cut_not-accepted : (t : State) (stream : List ℕ) (at : ℕ) → at < length stream → parse stream at ≡ broken → (call t stream at).reply ≡ Ok Accepted → ⊥
 unfolding read
 cut_not-accepted t stream at before-end cut accepted = go (call_refusal t stream at) refl
   where
     go : (o : Option Refusal) → call_refusal t stream at ≡ o → ⊥
-    go none e =
+    go None e =
         refused-not-accepted (Truncated at)
         (sym (ap (λ (r : Result). r.reply) (call-read t stream at e (omega (arith, before-end)) ∙ ap (read t stream at) cut)) ∙ accepted)
-    go (some q) e = refused-not-accepted q (sym (ap (λ (r : Result). r.reply) (call-refused t stream at q e)) ∙ accepted)
+    go (Some q) e = refused-not-accepted q (sym (ap (λ (r : Result). r.reply) (call-refused t stream at q e)) ∙ accepted)
 
 module _ (t : State) (stream : List ℕ) (at : ℕ) (before-end : at < length stream) (command : Command) (width : ℕ)
     (parsed : parse stream at ≡ complete command width) where
-  reads : call_refusal t stream at ≡ none → call t stream at ≡ obeyed t command (at + width)
+  reads : call_refusal t stream at ≡ None → call t stream at ≡ obeyed t command (at + width)
   unfolding read
   reads e = call-read t stream at e (omega (arith, before-end)) ∙ ap (read t stream at) parsed
 
   -- A call that is accepted has passed the checks before all else, and its command's own.
-  accepted_passes : (call t stream at).reply ≡ Accepted → (call_refusal t stream at ≡ none) × (command_refusal (held_of t.session) t.buffer command ≡ none)
+  accepted_passes : (call t stream at).reply ≡ Ok Accepted → (call_refusal t stream at ≡ None) × (command_refusal (held_of t.session) t.buffer command ≡ None)
   accepted_passes accepted = first (call_refusal t stream at) refl
     where
-      own : call_refusal t stream at ≡ none → (o : Option Refusal) → command_refusal (held_of t.session) t.buffer command ≡ o
-          → command_refusal (held_of t.session) t.buffer command ≡ none
-      own e none f = f
-      own e (some q) f =
+      own : call_refusal t stream at ≡ None → (o : Option Refusal) → command_refusal (held_of t.session) t.buffer command ≡ o
+          → command_refusal (held_of t.session) t.buffer command ≡ None
+      own e None f = f
+      own e (Some q) f =
           absurd (refused-not-accepted q
           (sym (ap (λ (r : Result). r.reply) (reads e ∙ obeyed-refused t command (at + width) q f)) ∙ accepted))
 
       first : (o : Option Refusal) → call_refusal t stream at ≡ o
-          → (call_refusal t stream at ≡ none) × (command_refusal (held_of t.session) t.buffer command ≡ none)
-      first none e = (e, own e (command_refusal (held_of t.session) t.buffer command) refl)
-      first (some q) e = absurd (refused-not-accepted q (sym (ap (λ (r : Result). r.reply) (call-refused t stream at q e)) ∙ accepted))
+          → (call_refusal t stream at ≡ None) × (command_refusal (held_of t.session) t.buffer command ≡ None)
+      first None e = (e, own e (command_refusal (held_of t.session) t.buffer command) refl)
+      first (Some q) e = absurd (refused-not-accepted q (sym (ap (λ (r : Result). r.reply) (call-refused t stream at q e)) ∙ accepted))
 
-  obeys : call_refusal t stream at ≡ none → command_refusal (held_of t.session) t.buffer command ≡ none
+  obeys : call_refusal t stream at ≡ None → command_refusal (held_of t.session) t.buffer command ≡ None
       → call t stream at ≡ result (reply_to command) (state_after t command) (at + width)
   obeys e f = reads e ∙ obeyed-accepted t command (at + width) f
 
-module _ (t : State) (stream : List ℕ) (at : ℕ) (sixteen : length t.session.masks ≡ max_cameras) (accepted : (call t stream at).reply ≡ Accepted)
+module _ (t : State) (stream : List ℕ) (at : ℕ) (sixteen : length t.session.masks ≡ max_cameras) (accepted : (call t stream at).reply ≡ Ok Accepted)
     (stream' : List ℕ) (at' : ℕ) (both : PoseThenWithdrawal stream at stream' at') where
   abbrev view : ℕ
   view = operand stream at 1
@@ -189,13 +190,11 @@ module _ (t : State) (stream : List ℕ) (at : ℕ) (sixteen : length t.session.
       go (whole-solve _ begins _) = absurd (other solve_byte (omega arith) begins)
 
   withdrawal_parsed : parse stream' at' ≡ complete (edit (withdraw view camera)) withdraw_width
-  unfolding width_of
   withdrawal_parsed =
-      let byte = both.withdrawal_there.1 in
-      (parse-withdraw stream' at' byte (rw byte both.whole)).0
+      parse-withdraw stream' at' both.withdrawal_there.1 both.whole
       ∙ (λ i. complete (edit (withdraw (both.same_view i) (both.same_camera i))) withdraw_width)
 
-  passes : (call_refusal t stream at ≡ none) × (command_refusal (held_of t.session) t.buffer (edit (place view camera p)) ≡ none)
+  passes : (call_refusal t stream at ≡ None) × (command_refusal (held_of t.session) t.buffer (edit (place view camera p)) ≡ None)
   passes = accepted_passes t stream at both.pose_here.0 (edit (place view camera p)) pose_width pose_parsed accepted
 
   usable : Usable t
@@ -204,12 +203,12 @@ module _ (t : State) (stream : List ℕ) (at : ℕ) (sixteen : length t.session.
   abbrev held-state : State
   held-state = state_after t (edit (place view camera p))
 
-  obeyed-pose : call t stream at ≡ result Accepted held-state (at + pose_width)
+  obeyed-pose : call t stream at ≡ result (Ok Accepted) held-state (at + pose_width)
   unfolding reply_to
   obeyed-pose = obeys t stream at both.pose_here.0 (edit (place view camera p)) pose_width pose_parsed passes.0 passes.1
 
   -- The state after it passes the same checks.
-  passes_again : call_refusal held-state stream' at' ≡ none
+  passes_again : call_refusal held-state stream' at' ≡ None
   passes_again =
       call_refusal_passes held-state stream' at'
       (passes_of_usable held-state stream' both.not_too_long (usable_after t usable (edit (place view camera p)) passes.1))
@@ -218,7 +217,7 @@ module _ (t : State) (stream : List ℕ) (at : ℕ) (sixteen : length t.session.
   abbrev back_state : State
   back_state = state_after held-state (edit (withdraw view camera))
 
-  obeyed_both : call (call t stream at).after stream' at' ≡ result Accepted back_state (at' + withdraw_width)
+  obeyed_both : call (call t stream at).after stream' at' ≡ result (Ok Accepted) back_state (at' + withdraw_width)
   unfolding reply_to
   obeyed_both =
       ap (λ (r : Result). call r.after stream' at') obeyed-pose

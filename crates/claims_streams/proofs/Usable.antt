@@ -5,7 +5,7 @@ use Prim.Native.Nat.{◌+◌, ◌*◌, ◌≤◌}
 use native.Mathlib.Omega.{arith}
 use mathlib.Core.Path.{◌≡◌, refl, ◌∙◌}
 use mathlib.Core.Bool.{false}
-use mathlib.Core.Option.{Option, none, some}
+use Rattle.std.specs.Prelude.{Option, None, Some}
 use mathlib.Core.List.{List, [], ◌∷◌}
 use lib.ListN.{length, length-append, length-drop}
 use borrow.Author.Tests.{eqb-true, ltb-false, not-false, eq-eqb, le-ltb}
@@ -24,11 +24,11 @@ use Rattle.session_commands.specs.Commands.{command_refusal, buffer_after}
 use Rattle.session_commands.specs.Obeyed.{first_length, second_length, State, reply_to, first_after, second_after, state_after}
 use Rattle.session.specs.Call.{unusable}
 use Rattle.claims_streams.specs.Stream.{answer, answer_to, state_after_all, Usable}
-use Rattle.session_commands.specs.declared.Reply.TheVariants.{Refused}
 use Rattle.claims_streams.proofs.Accepting.{solve-accepted}
 use Rattle.claims_streams.proofs.Sound.{T_true, true_T, Sound, sound_of_possible, possible_of_sound, has_sizes}
 use Rattle.claims_streams.proofs.Edits.All.{edit_law}
 use Rattle.claims_streams.proofs.Records.{sound_after}
+use Rattle.std.specs.Prelude.{Err}
 
 pub usable_of_check : (t : State) → unusable t ≡ false → Usable t
 usable_of_check t e =
@@ -54,7 +54,7 @@ check_of_usable t u =
 -- ---- lengths
 
 -- An answer written over the front of a list.
-length-answered {ℓ} : {A : Type ℓ} (new old : List A) → length new ≤ length old → length (answered none new old) ≡ length old
+length-answered {ℓ} : {A : Type ℓ} (new old : List A) → length new ≤ length old → length (answered None new old) ≡ length old
 unfolding answered
 length-answered new old h = simp (length-append, length-drop) (omega arith)
 
@@ -69,13 +69,13 @@ length-chains g = length-gather _ 2 (λ c. refl) g.cameras
 
 -- ---- one command
 
-pub answer_to-accepted : (t : State) (command : Command) → command_refusal (held_of t.session) t.buffer command ≡ none
+pub answer_to-accepted : (t : State) (command : Command) → command_refusal (held_of t.session) t.buffer command ≡ None
     → answer_to t command ≡ answer (reply_to command) (state_after t command)
 unfolding answer_to
 answer_to-accepted t command e = rw (e, answer_to)
 
-pub answer_to-refused : (t : State) (command : Command) (r : Refusal) → command_refusal (held_of t.session) t.buffer command ≡ some r
-    → answer_to t command ≡ answer (Refused r) t
+pub answer_to-refused : (t : State) (command : Command) (r : Refusal) → command_refusal (held_of t.session) t.buffer command ≡ Some r
+    → answer_to t command ≡ answer (Err r) t
 unfolding answer_to
 answer_to-refused t command r e = rw (e, answer_to)
 
@@ -83,13 +83,13 @@ module _ (t : State) (u : Usable t) where
   sound : Sound t.session
   sound = sound_of_possible t.session u.record_possible
 
-  pub buffer_kept : (command : Command) → command_refusal (held_of t.session) t.buffer command ≡ none
+  pub buffer_kept : (command : Command) → command_refusal (held_of t.session) t.buffer command ≡ None
       → length (buffer_after t.buffer command) ≡ length t.buffer
   unfolding command_refusal buffer_after
   buffer_kept (edit change) e = (edit_law change).length_kept t.session t.buffer e sound u.buffer_fits
   buffer_kept solve e = refl
 
-  pub first-kept : (command : Command) → command_refusal (held_of t.session) t.buffer command ≡ none → length (first_after t command) ≡ length t.first
+  pub first-kept : (command : Command) → command_refusal (held_of t.session) t.buffer command ≡ None → length (first_after t command) ≡ length t.first
   unfolding first_after rig_grid
   first-kept (edit change) e = refl
   first-kept solve e =
@@ -97,7 +97,7 @@ module _ (t : State) (u : Usable t) where
       length-answered (transforms (session_grid (held_of t.session) t.buffer)) t.first
       (omega (arith, length-transforms (session_grid (held_of t.session) t.buffer), u.first_fits, sizes.views_fit, sizes.cameras_fit))
 
-  pub second_kept : (command : Command) → command_refusal (held_of t.session) t.buffer command ≡ none → length (second_after t command) ≡ length t.second
+  pub second_kept : (command : Command) → command_refusal (held_of t.session) t.buffer command ≡ None → length (second_after t command) ≡ length t.second
   unfolding second_after rig_grid
   second_kept (edit change) e = refl
   second_kept solve e =
@@ -105,7 +105,7 @@ module _ (t : State) (u : Usable t) where
       length-answered (chains (session_grid (held_of t.session) t.buffer)) t.second
       (omega (arith, length-chains (session_grid (held_of t.session) t.buffer), u.second_fits, sizes.cameras_fit))
 
-  pub usable_after : (command : Command) → command_refusal (held_of t.session) t.buffer command ≡ none → Usable (state_after t command)
+  pub usable_after : (command : Command) → command_refusal (held_of t.session) t.buffer command ≡ None → Usable (state_after t command)
   unfolding state_after
   usable_after command e =
       record {
@@ -120,8 +120,8 @@ module _ (t : State) (u : Usable t) where
   usable_answer command = go (command_refusal (held_of t.session) t.buffer command) refl
     where
       go : (o : Option Refusal) → command_refusal (held_of t.session) t.buffer command ≡ o → Usable (answer_to t command).after
-      go none e = rw (answer_to-accepted t command e) (usable_after command e)
-      go (some r) e = rw (answer_to-refused t command r e) u
+      go None e = rw (answer_to-accepted t command e) (usable_after command e)
+      go (Some r) e = rw (answer_to-refused t command r e) u
 
 -- So do any commands one after the other.
 pub usable_after_all : (commands : List Command) (t : State) → Usable t → Usable (state_after_all t commands)

@@ -18,9 +18,10 @@ use Rattle.session_commands.specs.Commands.{Left, left-fresh, left_after}
 use Rattle.session_commands.specs.Obeyed.{first_length, second_length, State, Result}
 use Rattle.session.specs.Call.{max_stream}
 use Rattle.session_record.specs.declared.Session.{Session}
-use Rattle.session_commands.specs.declared.Reply.{Reply}
-use Rattle.session_commands.specs.declared.Reply.TheVariants.{End, Accepted, Solved, Refused}
+use Rattle.session_commands.specs.Reply.{Reply}
 use Rattle.claims_streams.specs.DirectInputs.{marks_of, floats_of}
+use Rattle.std.specs.Prelude.{Err, Ok}
+use Rattle.session_commands.specs.declared.Done.TheVariants.{Accepted, End, Solved}
 
 -- Checks that speak only where P holds.
 unfoldable pub when : Type 0 → List Check → List Check
@@ -227,29 +228,29 @@ pub record SolveLeaves (t t' : State) : Type 0 where
 
 -- Refused by a number of the table, with a detail.
 abbrev pub RefusedWith : Reply → ℕ → ℕ → Type 0
-RefusedWith r n d = (q : Refusal) × (r ≡ Refused q) × (number_of q ≡ n) × (detail_of q ≡ d)
+RefusedWith r n d = (q : Refusal) × (r ≡ Err q) × (number_of q ≡ n) × (detail_of q ≡ d)
 
 -- "5, 10, 11 and 13 end the stream", and "an offset equal to the length is the end".
 abbrev pub EndsTheStream : Reply → Type 0
-EndsTheStream r = (r ≡ End) ⊎ ((n : ℕ) × (d : ℕ) × RefusedWith r n d × ((n ≡ 5) ⊎ ((n ≡ 10) ⊎ ((n ≡ 11) ⊎ (n ≡ 13)))))
+EndsTheStream r = (r ≡ Ok End) ⊎ ((n : ℕ) × (d : ℕ) × RefusedWith r n d × ((n ≡ 5) ⊎ ((n ≡ 10) ⊎ ((n ≡ 11) ⊎ (n ≡ 13)))))
 
 -- What the demand asks of a call in a state, on a stream at an offset, that comes to r.
 pub record CallDemand1 (t : State) (stream : List ℕ) (at : ℕ) (r : Result) : Type 0 where
   -- "Refused, by document 01's numbers": by number n and detail d exactly when the words of n say so, and no words before them say anything.
   pub refused_exactly : (n d : ℕ) → RefusedWith r.reply n d ↔ Decides (call_checks t stream at) n d
   -- Every other call is the end, accepted or solved, by what stands at its offset.
-  pub end_exactly : (r.reply ≡ End) ↔ (AllSilent (call_checks t stream at) × (at ≡ length stream))
-  pub accepted_exactly : (r.reply ≡ Accepted)
+  pub end_exactly : (r.reply ≡ Ok End) ↔ (AllSilent (call_checks t stream at) × (at ≡ length stream))
+  pub accepted_exactly : (r.reply ≡ Ok Accepted)
       ↔ (AllSilent (call_checks t stream at) × (Begins stream at size_byte ⊎ (Begins stream at pose_byte ⊎ Begins stream at withdraw_byte)))
-  pub solved_exactly : (r.reply ≡ Solved) ↔ (AllSilent (call_checks t stream at) × Begins stream at solve_byte)
+  pub solved_exactly : (r.reply ≡ Ok Solved) ↔ (AllSilent (call_checks t stream at) × Begins stream at solve_byte)
   -- "A refused command changes neither session nor buffer", and a refusal "writes nothing".
   pub refusal_changes_nothing : (n d : ℕ) → RefusedWith r.reply n d → r.after ≡ t
-  pub end_changes_nothing : r.reply ≡ End → r.after ≡ t
+  pub end_changes_nothing : r.reply ≡ Ok End → r.after ≡ t
   -- What the other calls leave.
-  pub accepted_size : r.reply ≡ Accepted → Begins stream at size_byte → SizeLeaves t stream at r.after
-  pub accepted_pose : r.reply ≡ Accepted → Begins stream at pose_byte → PoseLeaves t stream at r.after
-  pub accepted_withdraw : r.reply ≡ Accepted → Begins stream at withdraw_byte → WithdrawLeaves t stream at r.after
-  pub solved_leaves : r.reply ≡ Solved → SolveLeaves t r.after
+  pub accepted_size : r.reply ≡ Ok Accepted → Begins stream at size_byte → SizeLeaves t stream at r.after
+  pub accepted_pose : r.reply ≡ Ok Accepted → Begins stream at pose_byte → PoseLeaves t stream at r.after
+  pub accepted_withdraw : r.reply ≡ Ok Accepted → Begins stream at withdraw_byte → WithdrawLeaves t stream at r.after
+  pub solved_leaves : r.reply ≡ Ok Solved → SolveLeaves t r.after
   -- "reading goes on at the next command, except that 5, 10, 11 and 13 end the stream: the next offset is then its length."
   pub next_at_end : EndsTheStream r.reply → r.next ≡ length stream
   pub next_command_is : (EndsTheStream r.reply → ⊥)

@@ -5,13 +5,13 @@ use Rattle.arithmetic.specs.Pose.{flat, pose_at}
 use Rattle.lists.specs.Masks.{in_mask}
 use Rattle.lists.specs.Lists.{tabulate, gather}
 use Rattle.extrinsics.specs.Direct.{Direct}
-use Rattle.extrinsics.specs.declared.Outcome.{Outcome}
-use Rattle.extrinsics.specs.declared.Outcome.TheVariants.{Refused as NotSolved, Solved as WellSolved}
+use Rattle.extrinsics.specs.Outcome.{Outcome}
 use Rattle.session_commands.specs.Obeyed.{State}
 use Rattle.claims_streams.specs.Stream.{Answer}
 use Rattle.session_record.specs.declared.Session.{Session}
-use Rattle.session_commands.specs.declared.Reply.{Reply}
-use Rattle.session_commands.specs.declared.Reply.TheVariants.{Refused, Solved}
+use Rattle.session_commands.specs.Reply.{Reply}
+use Rattle.std.specs.Prelude.{Err, Ok}
+use Rattle.session_commands.specs.declared.Done.TheVariants.{Solved}
 
 -- "per view, a 32-bit camera count"
 unfoldable pub counts_of : Session → List ℕ
@@ -27,8 +27,8 @@ floats_of s buffer = gather (s.views * s.cameras) (λ i. flat (pose_at buffer (7
 
 -- What the session replies where the direct call comes to that outcome.
 unfoldable pub reply_of : Outcome → Reply
-reply_of (NotSolved r) = Refused r
-reply_of WellSolved = Solved
+reply_of (Err r) = Err r
+reply_of (Ok tt) = Ok Solved
 
 -- An answer in a state is the direct call's: some outcome of it, the reply that says so, and both answers as that call leaves them;
 -- nothing else changes.

@@ -1,7 +1,7 @@
 -- Which poses a session holds after commands: a fold over the edits that were accepted, the last one that names a cell deciding what it holds.
 -- Rests on what commands answer in `Stream`.
 use Rattle.std.specs.Prelude.{ℕ, ◌+◌, ◌*◌, ◌<◌, ◌≡◌, Bool, true, false, ◌&&◌, ◌||◌, cond, List, [], ◌∷◌, ◌++◌, length, get_or, eqb, Float}
-use Rattle.std.proofs.Math.Option.{Option, none, some}
+use Rattle.std.specs.Prelude.{Option, None, Some}
 use Rattle.std.specs.Float.{nan}
 use Rattle.arithmetic.specs.Pose.{pose_at}
 use Rattle.arithmetic.specs.declared.pose.Pose.{Pose}
@@ -9,9 +9,10 @@ use Rattle.limits.specs.Limits.{max_cameras}
 use Rattle.lists.specs.Masks.{in_mask}
 use Rattle.command.specs.Command.{Edit, size, place, withdraw, Command, edit, solve}
 use Rattle.session_commands.specs.Obeyed.{State}
-use Rattle.session_commands.specs.declared.Reply.{Reply}
-use Rattle.session_commands.specs.declared.Reply.TheVariants.{End, Accepted, Solved, Refused}
+use Rattle.session_commands.specs.Reply.{Reply}
 use Rattle.claims_streams.specs.Stream.{answer_to}
+use Rattle.std.specs.Prelude.{Err, Ok}
+use Rattle.session_commands.specs.declared.Done.TheVariants.{Accepted, End, Solved}
 
 -- ---- the edits that are accepted, in their order
 
@@ -22,10 +23,10 @@ edits_in solve = []
 -- By the reply to a command.
 unfoldable pub accepted_in : Command → Reply → List Edit
 unfolding edits_in
-accepted_in command End = []
-accepted_in command Accepted = edits_in command
-accepted_in command Solved = []
-accepted_in command (Refused r) = []
+accepted_in command (Ok End) = []
+accepted_in command (Ok Accepted) = edits_in command
+accepted_in command (Ok Solved) = []
+accepted_in command (Err r) = []
 
 unfoldable pub accepted_edits : State → List Command → List Edit
 unfolding accepted_in answer_to
@@ -37,8 +38,8 @@ accepted_edits t (command ∷ later) = accepted_in command (answer_to t command)
 -- What an accepted edit leaves of a cell that held this.
 unfoldable pub cell_after : Edit → ℕ → ℕ → Option Pose → Option Pose
 cell_after (size views cameras reference) v c before = before
-cell_after (place view camera p) v c before = cond (eqb view v && eqb camera c) (some p) before
-cell_after (withdraw view camera) v c before = cond (eqb view v && eqb camera c) none before
+cell_after (place view camera p) v c before = cond (eqb view v && eqb camera c) (Some p) before
+cell_after (withdraw view camera) v c before = cond (eqb view v && eqb camera c) None before
 
 unfoldable pub held_from : Option Pose → List Edit → ℕ → ℕ → Option Pose
 unfolding cell_after
@@ -47,7 +48,7 @@ held_from before (change ∷ later) v c = held_from (cell_after change v c befor
 
 -- The pose of view v and camera c after these edits of a fresh session, if it holds one.
 abbrev pub held_after : List Edit → ℕ → ℕ → Option Pose
-held_after edits v c = held_from none edits v c
+held_after edits v c = held_from None edits v c
 
 -- Whether an edit names a cell, and whether one of several does.
 unfoldable pub names : Edit → ℕ → ℕ → Bool
@@ -82,8 +83,8 @@ written (change ∷ later) v c = writes change v c || written later v c
 
 -- They hold just this in a cell: its bit is clear, or it is set and "a cell's seven from 7 × (view × 16 + camera)" are that pose's.
 abbrev pub HoldsCell : List ℕ → List Float → ℕ → ℕ → Option Pose → Type 0
-HoldsCell masks buffer v c none = in_mask (get_or masks c 0) v ≡ false
-HoldsCell masks buffer v c (some p) = (in_mask (get_or masks c 0) v ≡ true) × (pose_at buffer (7 * (v * 16 + c)) ≡ p)
+HoldsCell masks buffer v c None = in_mask (get_or masks c 0) v ≡ false
+HoldsCell masks buffer v c (Some p) = (in_mask (get_or masks c 0) v ≡ true) × (pose_at buffer (7 * (v * 16 + c)) ≡ p)
 
 -- They hold what these edits of a fresh session leave, and nothing else; `start` is what the buffer held before any of them.
 pub record HoldsExactly (edits : List Edit) (start : List Float) (t : State) : Type 0 where

@@ -2,7 +2,7 @@
 -- commands answer one after the other, and both together. Then the calls one after the other, which are proved to give the same.
 -- Rests on the commands of `Command` and how a stream of them ends in `Framing`, what they do in `Commands`, and one call in `Call`.
 use Rattle.std.specs.Prelude.{ℕ, zero, suc, ◌+◌, ◌-◌, ◌≤◌, ◌<◌, ◌≡◌, Bool, true, false, ◌||◌, List, [], ◌∷◌, ◌++◌, length, take, drop, T, eqb, ltb}
-use Rattle.std.proofs.Math.Option.{Option, none, some}
+use Rattle.std.specs.Prelude.{Option, None, Some}
 use Rattle.refusal.specs.Table.{number_of, refuse_if, first_of}
 use Rattle.refusal.specs.declared.Refusal.{Refusal}
 use Rattle.refusal.specs.declared.Refusal.TheVariants.{WrongLength, UnknownCommand, Truncated, TooLong}
@@ -12,8 +12,9 @@ use Rattle.session_record.specs.Session.{held_of, buffer_length, possible}
 use Rattle.session_commands.specs.Commands.{command_refusal}
 use Rattle.session_commands.specs.Obeyed.{first_length, second_length, State, reply_to, state_after}
 use Rattle.session.specs.Call.{unusable, max_stream, call}
-use Rattle.session_commands.specs.declared.Reply.{Reply}
-use Rattle.session_commands.specs.declared.Reply.TheVariants.{End, Accepted, Solved, Refused}
+use Rattle.session_commands.specs.Reply.{Reply}
+use Rattle.std.specs.Prelude.{Err, Ok}
+use Rattle.session_commands.specs.declared.Done.TheVariants.{Accepted, End, Solved}
 
 -- ---- the commands that a stream holds
 
@@ -81,7 +82,7 @@ answer r t = record { reply = r; after = t }
 -- "A refused command changes neither session nor buffer".
 unfoldable pub answer_to : State → Command → Answer
 answer_to t command =
-    elim (command_refusal (held_of t.session) t.buffer command) [ some r ↦ answer (Refused r) t | none ↦ answer (reply_to command) (state_after t command) ]
+    elim (command_refusal (held_of t.session) t.buffer command) [ Some r ↦ answer (Err r) t | None ↦ answer (reply_to command) (state_after t command) ]
 
 unfoldable pub answers : State → List Command → List Answer
 answers t [] = []
@@ -110,25 +111,25 @@ unfoldable pub stream_refusal : State → List ℕ → Option Refusal
 stream_refusal t stream = first_of (refuse_if (ltb max_stream (length stream)) TooLong ∷ refuse_if (unusable t) WrongLength ∷ [])
 
 unfoldable pub ending_reply : Ending → Reply
-ending_reply clean = End
-ending_reply (unknown_byte byte) = Refused (UnknownCommand byte)
-ending_reply (broken_at at) = Refused (Truncated at)
+ending_reply clean = Ok End
+ending_reply (unknown_byte byte) = Err (UnknownCommand byte)
+ending_reply (broken_at at) = Err (Truncated at)
 
 -- The answers to the commands, then how the stream ends; that changes nothing.
 unfoldable pub answers_of : State → Contents → List Answer
 answers_of t held = answers t held.commands ++ (answer (ending_reply held.ending) (state_after_all t held.commands) ∷ [])
 
 unfoldable pub meaning : State → List ℕ → List Answer
-meaning t stream = elim (stream_refusal t stream) [ some r ↦ answer (Refused r) t ∷ [] | none ↦ answers_of t (contents_of stream) ]
+meaning t stream = elim (stream_refusal t stream) [ Some r ↦ answer (Err r) t ∷ [] | None ↦ answers_of t (contents_of stream) ]
 
 -- ---- the calls, one after the other
 
 -- "5, 10, 11 and 13 end the stream"; and "an offset equal to the length is the end".
 unfoldable pub ends_stream : Reply → Bool
-ends_stream End = true
-ends_stream Accepted = false
-ends_stream Solved = false
-ends_stream (Refused r) = eqb (number_of r) 5 || eqb (number_of r) 10 || eqb (number_of r) 11 || eqb (number_of r) 13
+ends_stream (Ok End) = true
+ends_stream (Ok Accepted) = false
+ends_stream (Ok Solved) = false
+ends_stream (Err r) = eqb (number_of r) 5 || eqb (number_of r) 10 || eqb (number_of r) 11 || eqb (number_of r) 13
 
 -- A call at an offset, the next where that one told that the next command begins, and so on until a reply ends the stream; at most so
 -- many calls.

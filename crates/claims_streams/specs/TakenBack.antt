@@ -6,10 +6,11 @@ use Rattle.std.specs.Float.{nan}
 use Rattle.command.specs.Command.{pose_byte, withdraw_byte, withdraw_width}
 use Rattle.session_commands.specs.Obeyed.{State, Result}
 use Rattle.session.specs.Call.{max_stream}
-use Rattle.session_commands.specs.declared.Reply.TheVariants.{Accepted}
 use Rattle.claims_streams.specs.Stream.{meaning}
 use Rattle.claims_streams.specs.CallDemand1.{Begins, operand, named_start}
 use Rattle.claims_streams.specs.Alike.{Alike, AnswersAlike, Asked, EachAlike}
+use Rattle.std.specs.Prelude.{Ok}
+use Rattle.session_commands.specs.declared.Done.TheVariants.{Accepted}
 
 -- A Pose stands at an offset of one stream, and the whole withdrawal of its cell at an offset of another, or of the same.
 pub record PoseThenWithdrawal (stream : List ℕ) (at : ℕ) (stream' : List ℕ) (at' : ℕ) : Type 0 where
@@ -23,7 +24,7 @@ pub record PoseThenWithdrawal (stream : List ℕ) (at : ℕ) (stream' : List ℕ
 -- What the withdrawal comes to as the next command: t is the state before the Pose, which stands at `at` of the stream, and r the call that obeyed the
 -- withdrawal at `at'`, in the state that the Pose left.
 pub record TakenBack (t : State) (stream : List ℕ) (at at' : ℕ) (r : Result) : Type 0 where
-  pub accepted : r.reply ≡ Accepted
+  pub accepted : r.reply ≡ Ok Accepted
   pub reads_on : r.next ≡ at' + withdraw_width
   -- "leave the session record as it was before the two"
   pub same_record : r.after.session ≡ t.session

@@ -5,10 +5,10 @@ use Rattle.refusal.specs.Table.{number_of, detail_of}
 use Rattle.session_record.specs.Session.{possible}
 use Rattle.session_record.specs.declared.Session.{Session}
 use Rattle.shared_query.specs.Query.{shared_answer}
-use Rattle.shared_query.specs.declared.Shared.{Shared}
-use Rattle.shared_query.specs.declared.Shared.TheVariants.{Refused, Count}
+use Rattle.shared_query.specs.Query.{Shared}
 use Rattle.claims_streams.specs.Stream.{meaning, last_state}
 use Rattle.claims_printing.specs.Printed.{fresh_state}
+use Rattle.std.specs.Prelude.{Err, Ok}
 
 -- ---- tables: "a 16 by 16 summary", row by row
 
@@ -152,8 +152,8 @@ abbrev asks : Session → ℕ → ℕ → List ℕ → QueryRow
 asks s a b l = record { asked = s; first = a; second = b; told = l }
 
 unfoldable pub numbers_of : Shared → List ℕ
-numbers_of (Count n) = n ∷ []
-numbers_of (Refused r) = number_of r ∷ detail_of r ∷ []
+numbers_of (Ok n) = n ∷ []
+numbers_of (Err r) = number_of r ∷ detail_of r ∷ []
 
 -- Pairs of three cameras, one both ways round, and two with themselves; 12 for the first, the second and both of them; 21 before 12; 5 before 21 and before
 -- 12.

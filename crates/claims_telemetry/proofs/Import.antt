@@ -6,7 +6,7 @@ use native.Mathlib.Nat.{zero-add}
 use native.Mathlib.Omega.{arith}
 use mathlib.Core.Path.{◌≡◌, refl, sym, ap, ap₂, ◌∙◌, subst}
 use mathlib.Core.Bool.{true}
-use mathlib.Core.Option.{Option, none, some}
+use Rattle.std.specs.Prelude.{Option, None, Some}
 use mathlib.Core.List.{List, [], ◌∷◌, ◌++◌, append_assoc, append-nil}
 use lib.ListN.{length, take, drop, length-append}
 use lib.Seq.{take_at, drop_at}
@@ -30,13 +30,13 @@ use Rattle.command.proofs.Writing.{parse_bytes_of}
 use Rattle.command.proofs.LowBytes.{length_place_bytes}
 use Rattle.telemetry.specs.Quotient.{count_of, quotient, micrometres, rotation_units}
 use Rattle.telemetry.specs.Frames.{frame_bytes, metres_at, rotation_at, packed_pose, packed_command, frames_in, command_bytes, frames_refusal, imported_of, import_leaves}
-use Rattle.telemetry.specs.declared.Imported.TheVariants.{Refused, Frames}
 use Rattle.telemetry.proofs.Quotient as telemetry
 use Rattle.telemetry.proofs.Quotient.{count_of_low, count_of_high, count_of_size, quotient_finite}
 use Rattle.telemetry.proofs.Frames.{frames-broken, frames_many, frames_wrong, frames_pass, import_refused, import_passed}
 use Rattle.claims_telemetry.specs.Import.{SignedAt, MetresAt, RotationAt, PoseOfFrame, CommandsOfFrames, RefusedWith, ImportDemand}
 use Rattle.claims_telemetry.specs.Nearest.{size_of}
 use Rattle.claims_telemetry.proofs.Nearest.{quotient-held, metres_nearest, units-exact}
+use Rattle.std.specs.Prelude.{Err, Ok}
 
 -- ---- one number
 
@@ -227,15 +227,15 @@ module _ (bytes lent : List ℕ) where
   many_frames : (n : ℕ) → length bytes ≡ 30 * n → length bytes / frame_bytes ≡ n
   many_frames n e = omega arith
 
-  refused_with : (r : Refusal) → detail_of r ≡ 0 → frames_refusal (length bytes) (length lent) ≡ some r → RefusedWith (imported_of bytes lent) (number_of r)
+  refused_with : (r : Refusal) → detail_of r ≡ 0 → frames_refusal (length bytes) (length lent) ≡ Some r → RefusedWith (imported_of bytes lent) (number_of r)
   refused_with r d e = (r, (import_refused bytes lent r e).0, refl, d)
 
-  left_alone : (r : Refusal) → imported_of bytes lent ≡ Refused r → import_leaves bytes lent ≡ lent
+  left_alone : (r : Refusal) → imported_of bytes lent ≡ Err r → import_leaves bytes lent ≡ lent
   left_alone r e = go (frames_refusal (length bytes) (length lent)) refl
     where
       go : (o : Option Refusal) → frames_refusal (length bytes) (length lent) ≡ o → import_leaves bytes lent ≡ lent
-      go (some q) f = (import_refused bytes lent q f).1
-      go none f = let passed = (import_passed bytes lent f).0 in let z : ◌≡◌ {A = ℕ} 0 1 = cc in absurd (omega arith)
+      go (Some q) f = (import_refused bytes lent q f).1
+      go None f = let passed = (import_passed bytes lent f).0 in let z : ◌≡◌ {A = ℕ} 0 1 = cc in absurd (omega arith)
 
   pub import_demand : ImportDemand bytes lent (imported_of bytes lent) (import_leaves bytes lent)
   import_demand = record {
@@ -249,6 +249,6 @@ module _ (bytes lent : List ℕ) where
         λ small n e l f.
         let passed = import_passed bytes lent (frames_pass (length bytes) (length lent) (whole-frames n e) (omega (arith, many_frames n e)) (omega (arith, many_frames n e, f))) in
         let same : import_leaves bytes lent ≡ gather n (block bytes) = passed.1 ∙ command_bytes_is bytes ∙ ap (λ (i : ℕ). gather i (block bytes)) (many_frames n e) in
-        (passed.0 ∙ ap Frames (many_frames n e), subst (CommandsOfFrames bytes n) (sym same) (commands_of_frames bytes n small));
+        (passed.0 ∙ ap Ok (many_frames n e), subst (CommandsOfFrames bytes n) (sym same) (commands_of_frames bytes n small));
     unchanged = left_alone;
   }

@@ -4,7 +4,7 @@ use Prim.Native.Nat.{ℕ, ◌+◌, ◌*◌, ◌/◌, ◌%◌, ◌≤◌, ◌<◌
 use native.Mathlib.Decide.{ℕ_discrete, dec_le}
 use native.Mathlib.Omega.{arith}
 use mathlib.Core.Path.{◌≡◌, sym, ap, ◌∙◌}
-use mathlib.Core.Option.{Option, none, some}
+use Rattle.std.specs.Prelude.{Option, None, Some}
 use Rattle.refusal.specs.Table.{number_of}
 use Rattle.refusal.specs.declared.Refusal.{Refusal}
 use Rattle.telemetry.specs.Frames.{frame_bytes, max_frames, frames_refusal, RefusedAlike}
@@ -13,8 +13,8 @@ use Rattle.claims_telemetry.specs.Import.{LengthsAlike}
 
 -- The number that is told, 0 where nothing is.
 abbrev told : Option Refusal → ℕ
-told none = 0
-told (some r) = number_of r
+told None = 0
+told (Some r) = number_of r
 
 module _ (a b : ℕ) (alike : RefusedAlike a b) where
   same : (lent : ℕ) → frames_refusal a lent ≡ frames_refusal b lent
@@ -30,7 +30,7 @@ module _ (a b : ℕ) (alike : RefusedAlike a b) where
   same_told lent = ap told (same lent)
 
   -- Where b passes with 59 bytes a frame lent, a does.
-  passes_too : b % frame_bytes ≡ 0 → b / frame_bytes ≤ max_frames → frames_refusal a (59 * (b / frame_bytes)) ≡ none
+  passes_too : b % frame_bytes ≡ 0 → b / frame_bytes ≤ max_frames → frames_refusal a (59 * (b / frame_bytes)) ≡ None
   passes_too whole few = same (59 * (b / frame_bytes)) ∙ frames_pass b (59 * (b / frame_bytes)) whole few (omega arith)
 
   broken_too : (a % frame_bytes ≡ 0 → ⊥) → b % frame_bytes ≡ 0 → ⊥

@@ -10,9 +10,9 @@ use Rattle.refusal.specs.declared.Refusal.{Refusal}
 use Rattle.command.specs.Framing.{frame, frames, clean, frames_from}
 use Rattle.command.specs.Command.{place, Command, edit, Bytes, width_of, commands_at, complete, parse}
 use Rattle.command.specs.Writing.{bytes_of}
-use Rattle.telemetry.specs.declared.Imported.{Imported}
-use Rattle.telemetry.specs.declared.Imported.TheVariants.{Refused, Frames}
+use Rattle.telemetry.specs.Frames.{Imported}
 use Rattle.claims_telemetry.specs.Nearest.{IsNearest, IsExact}
+use Rattle.std.specs.Prelude.{Err, Ok}
 
 -- ---- one number
 
@@ -65,14 +65,14 @@ pub record CommandsOfFrames (bytes : List ℕ) (n : ℕ) (commands : List ℕ) :
 -- "Refusal 14: the length is no multiple of 30. Refusal 15: more than 1,024 frames. Order: 14, 15, then 5 if the answer is not exactly that long." The four cases are all there are; a refusal
 -- writes nothing, and its detail is 0. Of an empty file there are 0 frames, and its answer has no bytes. What is imported is said of frames that are bytes, as those of every caller are.
 abbrev pub RefusedWith : Imported → ℕ → Type 0
-RefusedWith answer number = (q : Refusal) × (answer ≡ Refused q) × (number_of q ≡ number) × (detail_of q ≡ 0)
+RefusedWith answer number = (q : Refusal) × (answer ≡ Err q) × (number_of q ≡ number) × (detail_of q ≡ 0)
 
 pub record ImportDemand (bytes lent : List ℕ) (answer : Imported) (lent' : List ℕ) : Type 0 where
   pub no_multiple : ((n : ℕ) → length bytes ≡ 30 * n → ⊥) → RefusedWith answer 14
   pub too_many : (n : ℕ) → length bytes ≡ 30 * n → 1024 < n → RefusedWith answer 15
   pub another_length : (n : ℕ) → length bytes ≡ 30 * n → n ≤ 1024 → (length lent ≡ 59 * n → ⊥) → RefusedWith answer 5
-  pub imported : Bytes bytes → (n : ℕ) → length bytes ≡ 30 * n → n ≤ 1024 → length lent ≡ 59 * n → (answer ≡ Frames n) × CommandsOfFrames bytes n lent'
-  pub unchanged : (r : Refusal) → answer ≡ Refused r → lent' ≡ lent
+  pub imported : Bytes bytes → (n : ℕ) → length bytes ≡ 30 * n → n ≤ 1024 → length lent ≡ 59 * n → (answer ≡ Ok n) × CommandsOfFrames bytes n lent'
+  pub unchanged : (r : Refusal) → answer ≡ Err r → lent' ≡ lent
 
 -- ---- an input in place of a longer one
 

@@ -1,14 +1,14 @@
 -- Words, frames and lengths beside what they come to, worked out by hand from document 02, change 3, the doubles by exact fractions. Where code and definition change together, the rows
 -- hold the definitions, at these alone. Rests on the import of packed frames.
 use Rattle.std.specs.Prelude.{ℕ, List, [], ◌∷◌, ◌++◌, replicate}
-use Rattle.std.proofs.Math.Option.{Option, none, some}
+use Rattle.std.specs.Prelude.{Option, None, Some}
 use Rattle.std.specs.Float.{binary64}
 use Rattle.std.specs.Float.Ieee.{to_bits}
 use Rattle.refusal.specs.Table.{number_of, detail_of}
 use Rattle.refusal.specs.declared.Refusal.{Refusal}
 use Rattle.telemetry.specs.Frames.{metres_at, rotation_at, command_bytes, frames_refusal, imported_of, import_leaves}
-use Rattle.telemetry.specs.declared.Imported.{Imported}
-use Rattle.telemetry.specs.declared.Imported.TheVariants.{Refused, Frames}
+use Rattle.telemetry.specs.Frames.{Imported}
+use Rattle.std.specs.Prelude.{Err, Ok}
 
 -- What the definitions compute, and what the row says.
 pub record Row : Type 0 where
@@ -32,8 +32,8 @@ rotation word bits = record { computed = to_bits binary64 (rotation_at word 0) �
 
 -- How many bytes of frames, how many bytes lent, and what is told: nothing, or a refusal's number and detail.
 abbrev told : Option Refusal → List ℕ
-told none = []
-told (some r) = number_of r ∷ detail_of r ∷ []
+told None = []
+told (Some r) = number_of r ∷ detail_of r ∷ []
 
 abbrev lengths : ℕ → ℕ → List ℕ → Row
 lengths bytes lent said = record { computed = told (frames_refusal bytes lent); said = said }
@@ -44,8 +44,8 @@ commands frames said = record { computed = command_bytes frames; said = said }
 
 -- What is answered: the number of frames alone, or a refusal's number and detail.
 abbrev answered : Imported → List ℕ
-answered (Frames n) = n ∷ []
-answered (Refused q) = number_of q ∷ detail_of q ∷ []
+answered (Ok n) = n ∷ []
+answered (Err q) = number_of q ∷ detail_of q ∷ []
 
 abbrev answers : List ℕ → List ℕ → List ℕ → Row
 answers frames lent said = record { computed = answered (imported_of frames lent); said = said }

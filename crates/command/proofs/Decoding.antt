@@ -1,20 +1,22 @@
 -- What is parsed is framed, and is the command that its bytes are: so a command that is parsed lies within the stream (`parse-complete`), and is told by
 -- its own bytes wherever they stand (`parse-drop`, `parse_own`). Then each command by its first byte and the bytes behind it. Assumes nothing.
 use Prim.Native.Nat.{ℕ, ◌+◌, ◌≤◌, ◌<◌}
-use native.Mathlib.Decide.{ℕ_discrete}
 use native.Mathlib.Nat.{add_assoc}
 use native.Mathlib.Omega.{arith}
 use mathlib.Core.Path.{◌≡◌, refl, sym, ap, subst, ◌∙◌}
 use mathlib.Core.Bool.{Bool, true, false, cond}
-use mathlib.Core.Option.{Option, none, some}
+use Rattle.std.specs.Prelude.{Option, None, Some}
 use mathlib.Core.List.{List}
 use lib.ListN.{length, get_or, take, drop, length-take, length-drop}
-use lib.Seq.{get_or-take, get_or-drop, drop-drop, ext_get_or}
+use lib.Seq.{drop-drop, ext_get_or}
 use lib.Dec.{eqb}
-use borrow.Author.Tests.{le-leb, lt-leb, eq-eqb, ne_eqb}
+use borrow.Author.Tests.{le-leb, lt-leb}
 use Rattle.command.specs.Framing.{Framed, whole, short, foreign, frame, framed_by, framed, SomeByte}
 use Rattle.command.specs.Command.{Command, edit, solve, size_byte, pose_byte, solve_byte, withdraw_byte, size_width, pose_width, solve_width, withdraw_width, word_at, double_at, offered_pose, width_of, decode, command_at, complete, broken, unknown, decoded, parse}
-use Rattle.command.specs.Inner.Parts.{width_or_zero, size_at, place_at, withdraw_at}
+use Rattle.command.specs.Inner.Parts.{size_at, place_at, withdraw_at, byte_of, kind_width, command_of}
+use Rattle.command.specs.declared.parse.Kind.{Kind}
+use Rattle.command.specs.declared.parse.Kind.TheVariants.{Size, Pose, Solve, Withdraw}
+use Rattle.command.proofs.Words.{get_or-part}
 use Rattle.command.proofs.Framing.{framed-whole, framed-drop, framed_own}
 
 -- Every command of the table takes a byte or more.
@@ -24,10 +26,10 @@ width_of_some byte w e =
     entry (eqb byte size_byte) size_width _ (omega arith)
     (entry (eqb byte pose_byte) pose_width _ (omega arith)
     (entry (eqb byte solve_byte) solve_width _ (omega arith)
-    (entry (eqb byte withdraw_byte) withdraw_width none (omega arith) (λ f. absurd (let z : ◌≡◌ {A = ℕ} 0 1 = cc in omega arith))))) e
+    (entry (eqb byte withdraw_byte) withdraw_width None (omega arith) (λ f. absurd (let z : ◌≡◌ {A = ℕ} 0 1 = cc in omega arith))))) e
   where
     -- One entry of the table, and the rest of it.
-    entry : (b : Bool) (x : ℕ) (rest : Option ℕ) → 0 < x → (rest ≡ some w → 0 < w) → cond b (some x) rest ≡ some w → 0 < w
+    entry : (b : Bool) (x : ℕ) (rest : Option ℕ) → 0 < x → (rest ≡ Some w → 0 < w) → cond b (Some x) rest ≡ Some w → 0 < w
     entry true x rest h later f = let same : x ≡ w = cc in omega arith
     entry false x rest h later f = later f
 
@@ -86,13 +88,10 @@ parse_own stream stream' at command width e same fits =
     lengths : (l : List ℕ) → at + width ≤ length l → length (take width (drop at l)) ≡ width
     lengths l h = simp (length-take, length-drop) (omega arith)
 
-    byte : (l : List ℕ) (i : ℕ) → i < width → get_or (take width (drop at l)) i 0 ≡ get_or l (at + i) 0
-    byte l i h = get_or-take width (drop at l) i 0 h ∙ get_or-drop at l i 0
-
     own : take width (drop at stream') ≡ take width (drop at stream)
     own =
         ext_get_or 0 _ _ (lengths stream' fits ∙ sym (lengths stream inside.1))
-        (λ i l. let h : i < width = omega (arith, lengths stream' fits) in byte stream' i h ∙ same (at + i) (omega arith) ∙ sym (byte stream i h))
+        (λ i l. let h : i < width = omega (arith, lengths stream' fits) in get_or-part stream' at width i h ∙ same (at + i) (omega arith) ∙ sym (get_or-part stream at width i h))
 
 -- ---- the bytes of a command, where they stand in the stream
 
@@ -101,7 +100,7 @@ module _ (stream : List ℕ) (at w : ℕ) where
   own = take w (drop at stream)
 
   own_byte : (i : ℕ) → i < w → get_or own i 0 ≡ get_or stream (at + i) 0
-  own_byte i h = get_or-take w (drop at stream) i 0 h ∙ get_or-drop at stream i 0
+  own_byte = get_or-part stream at w
 
   own_first : 0 < w → get_or own 0 0 ≡ get_or stream at 0
   own_first h = own_byte 0 h ∙ ap (λ (i : ℕ). get_or stream i 0) (omega arith)
@@ -142,94 +141,68 @@ module _ (stream : List ℕ) (at : ℕ) where
   abbrev byte : ℕ
   byte = get_or stream at 0
 
-  pub parse-foreign : width_or_zero (width_of byte) ≡ 0 → parse stream at ≡ unknown byte
+  pub parse-foreign : width_of byte ≡ None → parse stream at ≡ unknown byte
   unfolding framed framed_by decoded
-  parse-foreign e = go (width_of byte) refl
-    where
-      go : (o : Option ℕ) → width_of byte ≡ o → parse stream at ≡ unknown byte
-      go none f = parse-framed stream at (foreign byte) (ap (framed_by stream at) f)
-      go (some w) f = absurd (let zero-width : w ≡ 0 = sym (ap width_or_zero f) ∙ e in omega (arith, width_of_some byte w f))
+  parse-foreign e = parse-framed stream at (foreign byte) (ap (framed_by stream at) e)
 
-  pub parse-short : (width_or_zero (width_of byte) ≡ 0 → ⊥) → length stream < at + width_or_zero (width_of byte) → parse stream at ≡ broken
+  pub parse-short : (w : ℕ) → width_of byte ≡ Some w → length stream < at + w → parse stream at ≡ broken
   unfolding framed framed_by decoded
-  parse-short some-width cut = go (width_of byte) refl
-    where
-      go : (o : Option ℕ) → width_of byte ≡ o → parse stream at ≡ broken
-      go none f = absurd (some-width (ap width_or_zero f))
-      go (some w) f =
-          let past : length stream < at + w = subst (λ (o : Option ℕ). length stream < at + width_or_zero o) f cut in
-          parse-framed stream at short
-          (ap (framed_by stream at) f ∙ ap (λ (b : Bool). cond b (whole w) short) (lt-leb (at + w) (length stream) past))
+  parse-short w e cut =
+      parse-framed stream at short (ap (framed_by stream at) e ∙ ap (λ (b : Bool). cond b (whole w) short) (lt-leb (at + w) (length stream) cut))
 
-  parse-whole : (w : ℕ) → width_of byte ≡ some w → at + width_or_zero (width_of byte) ≤ length stream
-      → (parse stream at ≡ complete (command_at stream (frame at w)) w) × (at + w ≤ length stream)
+  parse-whole : (w : ℕ) → width_of byte ≡ Some w → at + w ≤ length stream → parse stream at ≡ complete (command_at stream (frame at w)) w
   unfolding framed framed_by decoded
-  parse-whole w f room =
-      let fits : at + w ≤ length stream = subst (λ (o : Option ℕ). at + width_or_zero o ≤ length stream) f room in (
-        parse-framed stream at (whole w)
-            (ap (framed_by stream at) f ∙ ap (λ (b : Bool). cond b (whole w) short) (le-leb (at + w) (length stream) fits)),
-        fits,
-      )
+  parse-whole w e room =
+      parse-framed stream at (whole w) (ap (framed_by stream at) e ∙ ap (λ (b : Bool). cond b (whole w) short) (le-leb (at + w) (length stream) room))
 
-  pub parse-size : byte ≡ size_byte → at + width_or_zero (width_of byte) ≤ length stream
-      → (parse stream at ≡ complete (edit (size_at stream at)) size_width) × (at + size_width ≤ length stream)
+  pub parse-size : byte ≡ size_byte → at + size_width ≤ length stream → parse stream at ≡ complete (edit (size_at stream at)) size_width
   unfolding width_of command_at decode
   parse-size e room =
-      let found = parse-whole size_width (rw (eq-eqb byte size_byte e) refl) room in (
-        found.0
-            ∙ ap (λ (c : Command). complete c size_width)
-            (rw (
-              own_first stream at size_width (omega arith),
-              eq-eqb byte size_byte e,
-              own_byte stream at size_width 1 (omega arith),
-              own_byte stream at size_width 2 (omega arith),
-              own_byte stream at size_width 3 (omega arith),
-            ) refl),
-        found.1,
-      )
+      parse-whole size_width (rw e refl) room
+      ∙ ap (λ (c : Command). complete c size_width)
+      (rw (
+        own_first stream at size_width (omega arith),
+        e,
+        own_byte stream at size_width 1 (omega arith),
+        own_byte stream at size_width 2 (omega arith),
+        own_byte stream at size_width 3 (omega arith),
+      ) refl)
 
-  pub parse-place : (byte ≡ size_byte → ⊥) → byte ≡ pose_byte → at + width_or_zero (width_of byte) ≤ length stream
-      → (parse stream at ≡ complete (edit (place_at stream at)) pose_width) × (at + pose_width ≤ length stream)
+  pub parse-place : byte ≡ pose_byte → at + pose_width ≤ length stream → parse stream at ≡ complete (edit (place_at stream at)) pose_width
   unfolding width_of command_at decode
-  parse-place z e room =
-      let found = parse-whole pose_width (rw (ne_eqb byte size_byte z, eq-eqb byte pose_byte e) refl) room in (
-        found.0
-            ∙ ap (λ (c : Command). complete c pose_width)
-            (rw (
-              own_first stream at pose_width (omega arith),
-              ne_eqb byte size_byte z,
-              eq-eqb byte pose_byte e,
-              own_byte stream at pose_width 1 (omega arith),
-              own_byte stream at pose_width 2 (omega arith),
-              own_pose stream at pose_width (omega arith),
-            ) refl),
-        found.1,
-      )
+  parse-place e room =
+      parse-whole pose_width (rw e refl) room
+      ∙ ap (λ (c : Command). complete c pose_width)
+      (rw (
+        own_first stream at pose_width (omega arith),
+        e,
+        own_byte stream at pose_width 1 (omega arith),
+        own_byte stream at pose_width 2 (omega arith),
+        own_pose stream at pose_width (omega arith),
+      ) refl)
 
-  pub parse-withdraw : byte ≡ withdraw_byte → at + width_or_zero (width_of byte) ≤ length stream
-      → (parse stream at ≡ complete (edit (withdraw_at stream at)) withdraw_width) × (at + withdraw_width ≤ length stream)
+  pub parse-withdraw : byte ≡ withdraw_byte → at + withdraw_width ≤ length stream → parse stream at ≡ complete (edit (withdraw_at stream at)) withdraw_width
   unfolding width_of command_at decode
   parse-withdraw e room =
-      let found = parse-whole withdraw_width (rw e refl) room in (
-        found.0
-            ∙ ap (λ (c : Command). complete c withdraw_width)
-            (rw (
-              own_first stream at withdraw_width (omega arith),
-              e,
-              own_byte stream at withdraw_width 1 (omega arith),
-              own_byte stream at withdraw_width 2 (omega arith),
-            ) refl),
-        found.1,
-      )
+      parse-whole withdraw_width (rw e refl) room
+      ∙ ap (λ (c : Command). complete c withdraw_width)
+      (rw (
+        own_first stream at withdraw_width (omega arith),
+        e,
+        own_byte stream at withdraw_width 1 (omega arith),
+        own_byte stream at withdraw_width 2 (omega arith),
+      ) refl)
 
-  pub parse-solve : (byte ≡ size_byte → ⊥) → (byte ≡ pose_byte → ⊥) → (byte ≡ withdraw_byte → ⊥) → (width_or_zero (width_of byte) ≡ 0 → ⊥)
-      → at + width_or_zero (width_of byte) ≤ length stream → parse stream at ≡ complete solve solve_width
+  pub parse-solve : byte ≡ solve_byte → at + solve_width ≤ length stream → parse stream at ≡ complete solve solve_width
   unfolding width_of command_at decode
-  parse-solve z p t some-width room = go (ℕ_discrete byte solve_byte)
-    where
-      go : Dec (byte ≡ solve_byte) → parse stream at ≡ complete solve solve_width
-      go (yes e) =
-          (parse-whole solve_width (rw (ne_eqb byte size_byte z, ne_eqb byte pose_byte p, eq-eqb byte solve_byte e) refl) room).0
-          ∙ ap (λ (c : Command). complete c solve_width)
-          (rw (own_first stream at solve_width (omega arith), ne_eqb byte size_byte z, ne_eqb byte pose_byte p, ne_eqb byte withdraw_byte t) refl)
-      go (no s) = absurd (some-width (rw (ne_eqb byte size_byte z, ne_eqb byte pose_byte p, ne_eqb byte solve_byte s, ne_eqb byte withdraw_byte t) refl))
+  parse-solve e room =
+      parse-whole solve_width (rw e refl) room
+      ∙ ap (λ (c : Command). complete c solve_width) (rw (own_first stream at solve_width (omega arith), e) refl)
+
+  -- By its kind.
+  pub parse_by_kind : (kind : Kind) → byte ≡ byte_of kind → at + kind_width kind ≤ length stream
+      → parse stream at ≡ complete (command_of kind stream at) (kind_width kind)
+  parse_by_kind Size = parse-size
+  parse_by_kind Pose = parse-place
+  parse_by_kind Solve = parse-solve
+  parse_by_kind Withdraw = parse-withdraw

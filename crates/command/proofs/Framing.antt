@@ -6,7 +6,7 @@ use native.Mathlib.Decide.{ℕ_discrete, dec_le}
 use native.Mathlib.Omega.{arith, by_contra}
 use mathlib.Core.Path.{◌≡◌, refl, sym, ap, subst, ◌∙◌}
 use mathlib.Core.Bool.{Bool, true, false, cond}
-use mathlib.Core.Option.{Option, none, some}
+use Rattle.std.specs.Prelude.{Option, None, Some}
 use mathlib.Core.List.{List, [], ◌∷◌}
 use lib.ListN.{length, get_or, drop, length-drop}
 use lib.Seq.{get_or-drop}
@@ -22,10 +22,10 @@ Within stream at (whole w) = (0 < w) × (at + w ≤ length stream)
 Within stream at short = Unit {0}
 Within stream at (foreign byte) = Unit {0}
 
-within_by : (stream : List ℕ) (at : ℕ) (o : Option ℕ) → ((w : ℕ) → o ≡ some w → 0 < w) → Within stream at (framed_by stream at o)
+within_by : (stream : List ℕ) (at : ℕ) (o : Option ℕ) → ((w : ℕ) → o ≡ Some w → 0 < w) → Within stream at (framed_by stream at o)
 unfolding framed_by
-within_by stream at none h = tt
-within_by stream at (some w) h = go (leb (at + w) (length stream)) refl
+within_by stream at None h = tt
+within_by stream at (Some w) h = go (leb (at + w) (length stream)) refl
   where
     go : (b : Bool) → leb (at + w) (length stream) ≡ b → Within stream at (cond b (whole w) short)
     go true e = (h w refl, leb-true _ _ e)
@@ -50,18 +50,18 @@ leb_agree a b c d forth back = go (dec_le a b)
 
 framed_by-drop : (n : ℕ) (stream : List ℕ) (at : ℕ) (o : Option ℕ) → n ≤ length stream → framed_by (drop n stream) at o ≡ framed_by stream (n + at) o
 unfolding framed_by
-framed_by-drop n stream at none h = ap foreign (get_or-drop n stream at 0)
-framed_by-drop n stream at (some w) h =
+framed_by-drop n stream at None h = ap foreign (get_or-drop n stream at 0)
+framed_by-drop n stream at (Some w) h =
     ap (λ (b : Bool). cond b (whole w) short)
     (leb_agree (at + w) (length (drop n stream)) (n + at + w) (length stream)
     (λ l. omega (arith, length-drop n stream)) (λ l. omega (arith, length-drop n stream)))
 
-framed_by_own : (stream : List ℕ) (at w : ℕ) (o : Option ℕ) → framed_by stream at o ≡ whole w → o ≡ some w
+framed_by_own : (stream : List ℕ) (at w : ℕ) (o : Option ℕ) → framed_by stream at o ≡ whole w → o ≡ Some w
 unfolding framed_by
-framed_by_own stream at w none e = absurd (let z : ◌≡◌ {A = ℕ} 0 1 = cc in omega arith)
-framed_by_own stream at w (some v) e = go (leb (at + v) (length stream)) e
+framed_by_own stream at w None e = absurd (let z : ◌≡◌ {A = ℕ} 0 1 = cc in omega arith)
+framed_by_own stream at w (Some v) e = go (leb (at + v) (length stream)) e
   where
-    go : (b : Bool) → cond b (whole v) short ≡ whole w → some v ≡ some w
+    go : (b : Bool) → cond b (whole v) short ≡ whole w → Some v ≡ Some w
     go true f = cc
     go false f = absurd (let z : ◌≡◌ {A = ℕ} 0 1 = cc in omega arith)
 

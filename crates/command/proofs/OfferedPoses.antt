@@ -1,45 +1,39 @@
--- A pose of finite numbers is one whose seven numbers are finite, and none of them is a NaN. Assumes nothing.
-use mathlib.Core.Path.{◌≡◌}
-use mathlib.Core.Bool.{true, not, ◌&&◌, false≢true}
+-- A pose of finite numbers is one each of whose seven numbers is finite, and none of them is a NaN. Assumes nothing.
+use Prim.Native.Nat.{ℕ, ◌+◌, ◌*◌, ◌<◌}
+use native.Mathlib.Nat.{add-zero, zero-add}
+use mathlib.Core.Path.{◌≡◌, sym, ◌∙◌}
+use mathlib.Core.Bool.{true, not, false≢true, and_assoc, and-true}
+use mathlib.Core.List.{List}
 use lib.Dec.{T}
+use lib.ListN.{get_or}
 use lib.Ieee.{Float, nan, inf, fin, is_nan}
 use lib.Ieee.Scale.{finite}
-use Rattle.arithmetic.specs.Pose.{finite_vec, finite_quat, finite_pose}
-use Rattle.arithmetic.specs.declared.pose.Vec3.{Vec3}
-use Rattle.arithmetic.specs.declared.pose.Quaternion.{Quaternion}
+use Rattle.std.specs.List.{list_all, range_with_len}
+use Rattle.std.proofs.lemmas.List.Elements.{All-get_or}
+use Rattle.std.proofs.lemmas.List.FromFn.{get_or-range_with_len}
+use Rattle.std.proofs.lemmas.List.Sums.{AllPass-from_list_all}
+use Rattle.arithmetic.specs.Pose.{finite_pose, flat}
 use Rattle.arithmetic.specs.declared.pose.Pose.{Pose}
-use Rattle.lists.proofs.Tests.{and-true}
+use Rattle.command.specs.Command.{double_at, offered_pose}
 
-pub record FiniteVec (v : Vec3) : Type 0 where
-  pub finite_x : finite v.x ≡ true
-  pub finite_y : finite v.y ≡ true
-  pub finite_z : finite v.z ≡ true
+pub finite_pose-flat : (p : Pose) → finite_pose p ≡ list_all finite (flat p)
+unfolding finite_pose
+finite_pose-flat p = simp (and_assoc, and-true)
 
-pub record FiniteQuat (q : Quaternion) : Type 0 where
-  pub finite_i : finite q.i ≡ true
-  pub finite_j : finite q.j ≡ true
-  pub finite_k : finite q.k ≡ true
-  pub finite_w : finite q.w ≡ true
+pub finite_number : (p : Pose) → finite_pose p ≡ true → (k : ℕ) → k < 7 → finite (get_or (flat p) k nan) ≡ true
+finite_number p all k h = All-get_or (λ x. finite x ≡ true) (flat p) k nan h (AllPass-from_list_all finite (flat p) (sym (finite_pose-flat p) ∙ all))
 
-module _ (p : Pose) (all : finite_pose p ≡ true) where
-  pub finite_translation : FiniteVec p.translation
-  unfolding finite_pose
-  finite_translation =
-      let v = p.translation in
-      let h = (and-true (finite_vec v) (finite_quat p.rotation) all).0 in
-      let xy = and-true (finite v.x && finite v.y) (finite v.z) h in
-      let x = and-true (finite v.x) (finite v.y) xy.0 in
-      record { finite_x = x.0; finite_y = x.1; finite_z = xy.1 }
+-- The seven numbers of a pose at a place of a stream.
+module _ (bytes : List ℕ) (at : ℕ) where
+  pub finite_pose-offered_pose : finite_pose (offered_pose bytes at) ≡ list_all (λ k. finite (double_at bytes (at + 8 * k))) (range_with_len 0 7)
+  unfolding offered_pose
+  finite_pose-offered_pose = rw (finite_pose-flat (offered_pose bytes at)) (simp add-zero)
 
-  pub finite_rotation : FiniteQuat p.rotation
-  unfolding finite_pose
-  finite_rotation =
-      let q = p.rotation in
-      let h = (and-true (finite_vec p.translation) (finite_quat q) all).1 in
-      let ijk = and-true (finite q.i && finite q.j && finite q.k) (finite q.w) h in
-      let ij = and-true (finite q.i && finite q.j) (finite q.k) ijk.0 in
-      let i = and-true (finite q.i) (finite q.j) ij.0 in
-      record { finite_i = i.0; finite_j = i.1; finite_k = ij.1; finite_w = ijk.1 }
+  pub finite_offered : finite_pose (offered_pose bytes at) ≡ true → (k : ℕ) → k < 7 → finite (double_at bytes (at + 8 * k)) ≡ true
+  finite_offered all k h =
+      let test = λ (k : ℕ). finite (double_at bytes (at + 8 * k)) in
+      let each = AllPass-from_list_all test (range_with_len 0 7) (sym finite_pose-offered_pose ∙ all) in
+      rw (get_or-range_with_len 0 7 k 0 h, zero-add) at (All-get_or (λ (k : ℕ). test k ≡ true) (range_with_len 0 7) k 0 h each)
 
 -- What is finite is no NaN.
 pub finite_not-nan : (x : Float) → finite x ≡ true → T (not (is_nan x))

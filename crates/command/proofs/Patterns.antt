@@ -2,13 +2,13 @@
 use Prim.Native.Nat.{ℕ, zero, suc, ◌+◌, ◌/◌, ◌%◌, ◌^◌, ◌<◌}
 use native.Mathlib.Decide.{dec_lt}
 use native.Mathlib.Omega.{arith}
-use mathlib.Core.Path.{◌≡◌, refl, sym, ap, ◌∙◌, subst}
+use mathlib.Core.Path.{◌≡◌, refl, sym, ap, ◌∙◌}
 use mathlib.Core.Bool.{Bool, true, false, not, cond}
 use lib.Dec.{T, eqb, leb, ltb}
-use borrow.Author.Tests.{lt-ltb, le-ltb, eq-eqb, ne_eqb}
-use lib.Ieee.{Float, nan, inf, fin, binary64, is_nan, odd, of_fields, of_bits, nan_bits}
-use lib.Ieee.Bits.{nan_bits_is}
+use borrow.Author.Tests.{ltb-true, lt-ltb, le-ltb, eq-eqb, ne_eqb}
+use lib.Ieee.{nan, inf, binary64, odd, of_fields, of_bits, nan_bits}
 use lib.Ieee.Scale.{finite}
+use Rattle.std.proofs.lemmas.Float.{not_nan_f64_bits}
 
 -- The pattern of infinity, and the bit of the sign.
 abbrev pub infinity : ℕ
@@ -45,11 +45,7 @@ unfolding of_bits
 finite_pattern n = finite_fields (leb sign n) (n % sign / 2 ^ 52) (n % 2 ^ 52) ∙ below-infinity (n % sign) (omega arith)
 
 -- A finite pattern is no NaN's.
-pub finite_not-nan : (n : ℕ) → finite (of_bits binary64 n) ≡ true → T (not (nan_bits binary64 n))
-unfolding is_nan
-finite_not-nan n f = subst (λ (b : Bool). T (not b)) (sym (nan_bits_is binary64 n)) (go (of_bits binary64 n) f)
-  where
-    go : (x : Float) → finite x ≡ true → T (not (is_nan x))
-    go nan e = subst T (sym e) tt
-    go (inf s) e = tt
-    go (fin s m d) e = tt
+pub not_nan_pattern : (n : ℕ) → finite (of_bits binary64 n) ≡ true → T (not (nan_bits binary64 n))
+not_nan_pattern n f =
+    let below = ltb-true (n % sign) infinity (sym (finite_pattern n) ∙ f) in
+    not_nan_f64_bits n (omega arith)

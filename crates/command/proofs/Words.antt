@@ -1,14 +1,30 @@
--- Eight bytes are two halves of four. Assumes nothing.
-use Prim.Native.Nat.{ℕ, ◌+◌, ◌*◌}
+-- The bytes of a part of a list, and that eight bytes from a place are the number that std reads from them. Assumes nothing.
+use Prim.Native.Nat.{ℕ, ◌+◌, ◌<◌}
+use native.Mathlib.Nat.{add-zero}
 use native.Mathlib.Omega.{arith}
-use mathlib.Core.Path.{◌≡◌}
+use mathlib.Core.Path.{◌≡◌, ◌∙◌}
 use mathlib.Core.List.{List}
-use Rattle.command.specs.Command.{half_at, word_at}
+use lib.ListN.{get_or, take, drop}
+use lib.Seq.{get_or-take, get_or-drop}
+use Rattle.std.specs.Int.{w64, from_le_bytes}
+use Rattle.command.specs.Command.{word_at}
 
-pub word_at_halves : (bytes : List ℕ) (at : ℕ) → word_at bytes at ≡ half_at bytes at + 4294967296 * half_at bytes (at + 4)
+-- A byte of a part, where it stands in the whole.
+pub get_or-part : (bytes : List ℕ) (at n i : ℕ) → i < n → get_or (take n (drop at bytes)) i 0 ≡ get_or bytes (at + i) 0
+get_or-part bytes at n i h = get_or-take n (drop at bytes) i 0 h ∙ get_or-drop at bytes i 0
+
+pub word_at_is : (bytes : List ℕ) (at : ℕ) → word_at bytes at ≡ from_le_bytes w64 (take 8 (drop at bytes))
 unfolding word_at
-word_at_halves bytes at =
-    let five : at + 4 + 1 ≡ at + 5 = omega arith in
-    let six : at + 4 + 2 ≡ at + 6 = omega arith in
-    let seven : at + 4 + 3 ≡ at + 7 = omega arith in
-    rw (five, six, seven) (omega arith)
+word_at_is bytes at =
+    rw (
+      get_or-part bytes at 8 0 (omega arith),
+      get_or-part bytes at 8 1 (omega arith),
+      get_or-part bytes at 8 2 (omega arith),
+      get_or-part bytes at 8 3 (omega arith),
+      get_or-part bytes at 8 4 (omega arith),
+      get_or-part bytes at 8 5 (omega arith),
+      get_or-part bytes at 8 6 (omega arith),
+      get_or-part bytes at 8 7 (omega arith),
+      add-zero,
+    )
+    (omega arith)

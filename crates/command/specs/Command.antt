@@ -1,7 +1,7 @@
 -- Commands in a stream of bytes, by document 01, "A stream arrives", and document 02: "A command is one byte followed by operands of fixed widths. Floats are the 64 bits of an IEEE 754 double, low byte first."
 -- Rests on the poses of `arithmetic`, and on how a table of widths cuts a stream, in `Framing`.
 use Rattle.std.specs.Prelude.{ℕ, ◌+◌, ◌*◌, ◌<◌, cond, List, [], ◌∷◌, get_or, take, drop, eqb, Float}
-use Rattle.std.proofs.Math.Option.{Option, none, some}
+use Rattle.std.specs.Prelude.{Option, None, Some}
 use Rattle.std.specs.Float.{binary64}
 use Rattle.std.specs.Float.Ieee.{of_bits}
 use Rattle.arithmetic.specs.Pose.{vec3, quaternion, pose}
@@ -78,10 +78,10 @@ offered_pose bytes at =
 -- The table of widths: the bytes that begin a command, and how many bytes it takes.
 unfoldable pub width_of : ℕ → Option ℕ
 width_of byte =
-    cond (eqb byte size_byte) (some size_width)
-    (cond (eqb byte pose_byte) (some pose_width)
-    (cond (eqb byte solve_byte) (some solve_width)
-    (cond (eqb byte withdraw_byte) (some withdraw_width) none)))
+    cond (eqb byte size_byte) (Some size_width)
+    (cond (eqb byte pose_byte) (Some pose_width)
+    (cond (eqb byte solve_byte) (Some solve_width)
+    (cond (eqb byte withdraw_byte) (Some withdraw_width) None)))
 
 -- The command that these bytes are, from the first to the last: which one is told by the first byte, one of the table.
 unfoldable pub decode : List ℕ → Command

@@ -3,7 +3,7 @@
 use Prim.Native.Nat.{ℕ, zero, suc, ◌+◌, ◌<◌}
 use Rattle.std.specs.Prelude.{◌≡◌, cond, length, get_or, eqb, leb}
 use Rattle.std.proofs.Math.Bool.{true, false}
-use Rattle.std.proofs.Math.Option.{Option, none, some}
+use Rattle.std.specs.Prelude.{Option, None, Some}
 use mathlib.Core.List.{List, [], ◌∷◌}
 
 -- ---- one command
@@ -15,8 +15,8 @@ pub data Framed : Type 0 where
   foreign : ℕ → Framed
 
 unfoldable pub framed_by : List ℕ → ℕ → Option ℕ → Framed
-framed_by stream at none = foreign (get_or stream at 0)
-framed_by stream at (some width) = cond (leb (at + width) (length stream)) (whole width) short
+framed_by stream at None = foreign (get_or stream at 0)
+framed_by stream at (Some width) = cond (leb (at + width) (length stream)) (whole width) short
 
 -- ---- a whole stream
 
@@ -64,7 +64,7 @@ module _ (widths : ℕ → Option ℕ) where
 
   -- Every command of the table takes a byte or more.
   abbrev pub SomeByte : Type 0
-  SomeByte = (byte w : ℕ) → widths byte ≡ some w → 0 < w
+  SomeByte = (byte w : ℕ) → widths byte ≡ Some w → 0 < w
 
   -- From one offset to another these commands stand one after the other.
   pub data Follow (stream : List ℕ) : ℕ → List Frame → ℕ → Type 0 where

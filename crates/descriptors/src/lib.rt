@@ -1,42 +1,16 @@
 // Reading a stream to its end, and writing to one: a call that was interrupted is made again, and so is, after a pause, one that found the stream
-// not ready; any other failure is told. No contract can say which bytes are read or written.
+// not ready; any other failure is told.
 #![tactic(auto)]
 
-ghost use Rattle.std.specs.Prelude.{◌-◌, ◌≤◌, length};
+ghost use Rattle.std.specs.Prelude.{◌≡◌, ◌<◌, ◌⊎◌, length, take, IfOk, IfErr, OnOk};
 ghost use Rattle.std.specs.Io.{StartsWith};
-ghost use Rattle.descriptors.specs.Moved.{MovedWithin, ReadWithin, WrittenWhole};
+ghost use Rattle.std.specs.Io.KnownBytes.{Appends, Consumes, IsAtEnd};
+ghost use Rattle.std.specs.IoError.{error_kind};
+ghost use Rattle.descriptors.specs.Moved.{IsTold, ReadWithin, WrittenWhole};
 
 use std::io::{Cursor, Error, ErrorKind, Read, Write};
 use std::time::{Clock, Duration};
 use std::{io, thread};
-
-// What one call came to.
-#[derive(Drop)]
-pub enum Moved {
-    // So many bytes were moved, at least one.
-    Bytes(usize),
-    // No byte was moved: where it was a read, the input is at its end.
-    Nothing,
-    // The call is to be made again.
-    Again,
-    Failed(Error),
-}
-
-// How a reading ended.
-#[derive(Drop)]
-pub enum Input {
-    // At the input's end, or where the memory was full, with so many bytes at its front.
-    Whole(usize),
-    Failed(Error),
-}
-
-// How a writing ended.
-#[derive(Drop)]
-pub enum Output {
-    // All was written, so many bytes by the counts that the calls answered.
-    Whole(usize),
-    Failed(Error),
-}
 
 // Calls that are made at most, so that each loop ends: more than a machine makes in its life.
 const MOST_CALLS: u64 = 9223372036854775807;
@@ -47,90 +21,65 @@ const PAUSE_NANOSECONDS: u64 = 1000000;
 // More than the system's words for a failure take.
 const WORDS_BYTES: usize = 300;
 
-fn pause<C: Clock>(clock: &C) {
-    thread::sleep(clock, Duration::from_nanos(PAUSE_NANOSECONDS));
-}
-
-// What a call on these bytes came to, by its answer.
-fn told<C: Clock>(clock: &C, answer: io::Result<usize>, bytes: &[u8]) -> Moved
-    ensures { MovedWithin result (length bytes.now) }
+// Whether a call that failed is to be made again; where the stream was not ready, after a pause.
+fn wait_or_fail<C: Clock>(clock: &C, error: Error) -> io::Result<()>
+    ensures again { OnOk result ((error_kind error ≡ ErrorKind.Interrupted) ⊎ (error_kind error ≡ ErrorKind.WouldBlock)) }
+    ensures failed { IfErr result (λ e. (e ≡ error) × IsTold e) }
 {
-    match answer {
-        Ok(0) => Moved::Nothing,
-        Ok(count) => Moved::Bytes(count.min(bytes.len())),
-        Err(error) => match error.kind() {
-            ErrorKind::Interrupted => Moved::Again,
-            ErrorKind::WouldBlock => {
-                pause(clock);
-                Moved::Again
-            }
-            _ => Moved::Failed(error),
-        },
+    match error.kind() {
+        ErrorKind::Interrupted => Ok(()),
+        ErrorKind::WouldBlock => {
+            thread::sleep(clock, Duration::from_nanos(PAUSE_NANOSECONDS));
+            Ok(())
+        }
+        _ => Err(error),
     }
 }
 
-// One read into the memory from a place on.
-fn read_some<C: Clock, R: Read>(clock: &C, input: &mut R, memory: &mut [u8], from: usize) -> Moved
-    requires { from ≤ length memory.old }
-    ensures { MovedWithin result (length memory.old - from) }
+// Reads until the input ends or the memory is full, and answers how many bytes stand at the memory's front.
+pub fn read_to_end<C: Clock, R: Read>(
+    clock: &C,
+    input: &mut R,
+    memory: &mut [u8],
+) -> io::Result<usize>
+    ensures within { ReadWithin result memory.new }
+    // Where the input's bytes are known, these are the next of them, and the last where they do not fill the memory.
+    ensures bytes { IfOk result (λ n. Consumes (R.remaining input.old) (R.remaining input.new) (take n memory.new)) }
+    ensures end { IfOk result (λ n. n < length memory.new → IsAtEnd (R.remaining input.new)) }
+    ensures failed { IfErr result IsTold }
 {
-    let answer = input.read(&mut memory[from..]);
-    told(clock, answer, &memory[from..])
-}
-
-// Reads until the input ends or the memory is full.
-pub fn read_to_end<C: Clock, R: Read>(clock: &C, input: &mut R, memory: &mut [u8]) -> Input
-    ensures { ReadWithin result memory.new }
-{
-    let mut done = 0usize;
-    let mut calls = MOST_CALLS;
-    while done < memory.len() {
-        if calls == 0 {
-            return Input::Failed(Error::from(ErrorKind::TimedOut));
+    let mut done = 0;
+    for _ in 0..MOST_CALLS {
+        if done == memory.len() {
+            return Ok(done);
         }
-        calls -= 1;
-        match read_some(clock, input, memory, done) {
-            Moved::Bytes(got) => {
-                done += got;
-            }
-            Moved::Nothing => {
-                return Input::Whole(done);
-            }
-            Moved::Again => {}
-            Moved::Failed(error) => {
-                return Input::Failed(error);
-            }
+        match input.read(&mut memory[done..]) {
+            Ok(0) => return Ok(done),
+            Ok(got) => done += got,
+            Err(error) => wait_or_fail(clock, error)?,
         }
     }
-    Input::Whole(done)
+    Err(Error::from(ErrorKind::TimedOut))
 }
 
-// Writes all of the bytes; or fails where a call failed or took nothing, when some may have been written.
-pub fn write_whole<C: Clock, W: Write>(clock: &C, output: &mut W, bytes: &[u8]) -> Output
-    ensures { WrittenWhole result bytes.now }
+// Writes all of the bytes, and answers how many these are; or fails where a call failed or took nothing, when some may have been written.
+pub fn write_whole<C: Clock, W: Write>(clock: &C, output: &mut W, bytes: &[u8]) -> io::Result<usize>
+    ensures whole { WrittenWhole result bytes.now }
+    ensures bytes { OnOk result (Appends (W.contents output.old) (W.contents output.new) bytes.now) }
+    ensures failed { IfErr result IsTold }
 {
-    let mut done = 0usize;
-    let mut calls = MOST_CALLS;
-    while done < bytes.len() {
-        if calls == 0 {
-            return Output::Failed(Error::from(ErrorKind::TimedOut));
+    let mut done = 0;
+    for _ in 0..MOST_CALLS {
+        if done == bytes.len() {
+            return Ok(done);
         }
-        calls -= 1;
-        let answer = output.write(&bytes[done..]);
-        match told(clock, answer, &bytes[done..]) {
-            Moved::Bytes(put) => {
-                done += put;
-            }
-            Moved::Nothing => {
-                return Output::Failed(Error::from(ErrorKind::WriteZero));
-            }
-            Moved::Again => {}
-            Moved::Failed(error) => {
-                return Output::Failed(error);
-            }
+        match output.write(&bytes[done..]) {
+            Ok(0) => return Err(Error::from(ErrorKind::WriteZero)),
+            Ok(put) => done += put,
+            Err(error) => wait_or_fail(clock, error)?,
         }
     }
-    Output::Whole(done)
+    Err(Error::from(ErrorKind::TimedOut))
 }
 
 // Tells on standard error, in one line, what failed, and why, in the system's words.

@@ -3,7 +3,7 @@ use Prim.Native.Nat.{ℕ, ◌<◌}
 use mathlib.Core.Path.{◌≡◌, refl, sym, ◌∙◌, subst}
 use mathlib.Core.Logic.{◌↔◌}
 use mathlib.Core.Bool.{Bool, true, false, not}
-use mathlib.Core.Option.{Option, none, some}
+use Rattle.std.specs.Prelude.{Option, None, Some}
 use mathlib.Core.List.{List}
 use lib.Dec.{T}
 use lib.Ieee.{Float}
@@ -23,12 +23,12 @@ module _ (r : Rig) (floats : List Float) (held v : ℕ) (inside : v < r.views) (
   is_empty_view-not-in_mask = go (lowest (holds (rig_grid r floats) v) r.cameras) refl (in_mask held v) refl
     where
       go : (o : Option ℕ) → lowest (holds (rig_grid r floats) v) r.cameras ≡ o → (b : Bool) → in_mask held v ≡ b
-          → (elim o [ some c ↦ false | none ↦ true ]) ≡ not b
-      go none e false t = refl
-      go none e true t =
+          → (elim o [ Some c ↦ false | None ↦ true ]) ≡ not b
+      go None e false t = refl
+      go None e true t =
           let (c, l, m) = union.0 (subst T (sym t) tt) in
           absurd (subst T (sym (holds-in_mask r floats v c inside l) ∙ lowest-none_fails (holds (rig_grid r floats) v) r.cameras c e l) m)
-      go (some c) e true t = refl
-      go (some c) e false t =
+      go (Some c) e true t = refl
+      go (Some c) e false t =
           let (l, p) = lowest_passes (holds (rig_grid r floats) v) r.cameras c e in
           absurd (subst T t (union.1 (c, l, subst T (sym p ∙ holds-in_mask r floats v c inside l) tt)))

@@ -18,11 +18,11 @@ use Rattle.inputs.specs.Inner.Marks.{mask_of}
 use Rattle.extrinsics.specs.Direct.{marked_cell, direct_grid}
 use Rattle.placing.specs.Rig.{masked_cell, rig_cell, rig_grid}
 use Rattle.placing.specs.Inner.Fitting.{Fitting}
-use Rattle.placing.specs.declared.grid.Cell.{Cell}
-use Rattle.placing.specs.declared.grid.Cell.TheVariants.{Empty, Held}
+use Rattle.placing.specs.Grid.{Cell}
 use Rattle.placing.specs.declared.grid.Rig.{Rig}
 use Rattle.inputs.proofs.MarkedMasks.{mask_of_below, in_mask_mask_of}
 use Rattle.lists.proofs.Tabulated.{tabulate_agree}
+use Rattle.std.specs.Prelude.{None, Some}
 
 -- The poses of one view follow those of the view before.
 abbrev pub dense_rig : List ℕ → ℕ → ℕ → ℕ → Rig
@@ -33,9 +33,9 @@ masked_cell-marked_cell : (marks : List ℕ) (floats : List Float) (mask v i : �
     → masked_cell mask floats v i ≡ marked_cell marks floats i
 unfolding masked_cell marked_cell
 masked_cell-marked_cell marks floats mask v i e =
-    ap (λ (t : Bool). cond t (Held (pose_at floats (7 * i))) Empty) e ∙ go (eqb (get_or marks i 0) 0)
+    ap (λ (t : Bool). cond t (Some (pose_at floats (7 * i))) None) e ∙ go (eqb (get_or marks i 0) 0)
   where
-    go : (t : Bool) → cond (not t) (Held (pose_at floats (7 * i))) Empty ≡ cond t Empty (Held (pose_at floats (7 * i)))
+    go : (t : Bool) → cond (not t) (Some (pose_at floats (7 * i))) None ≡ cond t None (Some (pose_at floats (7 * i)))
     go true = refl
     go false = refl
 

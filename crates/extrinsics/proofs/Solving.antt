@@ -6,7 +6,7 @@ use native.Mathlib.Omega.{arith}
 use mathlib.Core.Path.{◌≡◌, refl, sym, ap, ◌∙◌, subst}
 use mathlib.Core.Logic.{⊎_elim}
 use mathlib.Core.Bool.{Bool, true, false, not, cond}
-use mathlib.Core.Option.{Option, none, some}
+use Rattle.std.specs.Prelude.{Option, None, Some}
 use mathlib.Core.List.{List, [], ◌∷◌, ◌++◌}
 use borrow.Author.Tests.{ne_eqb, eq-eqb, not-false}
 use lib.ListN.{length, get_or, drop, length-append}
@@ -29,13 +29,13 @@ use Rattle.extrinsics.specs.Outcome.{lowest_not_finite, not_finite, unreached_se
 use Rattle.placing.specs.Rig.{rig_grid}
 use Rattle.placing.specs.Inner.Fitting.{Fitting}
 use Rattle.placing.specs.Inner.Placed.{Written}
-use Rattle.extrinsics.specs.declared.Outcome.TheVariants.{Refused, Solved}
 use Rattle.placing.specs.declared.grid.Rig.{Rig}
 use Rattle.lists.proofs.Blocks.{length-gather}
 use Rattle.chains.proofs.Reading.{layers_of_masks}
 use Rattle.placing.proofs.ViewCells.{holds-in_mask}
 use Rattle.placing.proofs.Rooting.{AllPlaced}
 use Rattle.inputs.proofs.Answering.{refuse_at-some, refuse_at-none, first_of_some, first_of_none}
+use Rattle.std.specs.Prelude.{Err, Ok}
 
 -- ---- the tree of a rig
 
@@ -68,17 +68,17 @@ power_sum-zero test (suc n) i e h =
     ⊎_elim (λ s. ap test s ∙ l.1) (λ k. power_sum-zero test n i l.0 k) (eq-or-lt_of_le (le_of_suc-le-suc h))
 
 module _ (g : Grid) where
-  pub refused-not_finite : (i : ℕ) → lowest_not_finite g ≡ some i → grid_refusal g ≡ some (NotFinite i)
+  pub refused-not_finite : (i : ℕ) → lowest_not_finite g ≡ Some i → grid_refusal g ≡ Some (NotFinite i)
   unfolding grid_refusal not_finite
   refused-not_finite i e =
       first_of_some (not_finite g) (unreached g ∷ empty_view g ∷ []) (NotFinite i) (refuse_at-some (lowest_not_finite g) NotFinite i e)
 
-  module _ (finite : lowest_not_finite g ≡ none) where
+  module _ (finite : lowest_not_finite g ≡ None) where
     after_finite : grid_refusal g ≡ first_of (unreached g ∷ empty_view g ∷ [])
     unfolding grid_refusal not_finite
     after_finite = first_of_none (not_finite g) (unreached g ∷ empty_view g ∷ []) (refuse_at-none (lowest_not_finite g) NotFinite finite)
 
-    pub refused-unreached : (unreached_set g ≡ 0 → ⊥) → grid_refusal g ≡ some (Unreached (unreached_set g))
+    pub refused-unreached : (unreached_set g ≡ 0 → ⊥) → grid_refusal g ≡ Some (Unreached (unreached_set g))
     unfolding unreached refuse_if
     refused-unreached n =
         after_finite
@@ -98,19 +98,19 @@ module _ (g : Grid) where
           ∙ first_of_none (unreached g) (empty_view g ∷ [])
           (ap (λ (b : Bool). refuse_if (not b) (Unreached (unreached_set g))) (eq-eqb (unreached_set g) 0 reached))
 
-      pub refused-empty_view : (v : ℕ) → lowest_empty_view g ≡ some v → grid_refusal g ≡ some (EmptyView v)
+      pub refused-empty_view : (v : ℕ) → lowest_empty_view g ≡ Some v → grid_refusal g ≡ Some (EmptyView v)
       unfolding empty_view
       refused-empty_view v e =
           after_reached ∙ first_of_some (empty_view g) [] (EmptyView v) (refuse_at-some (lowest_empty_view g) EmptyView v e)
 
-      pub not-refused : lowest_empty_view g ≡ none → grid_refusal g ≡ none
+      pub not-refused : lowest_empty_view g ≡ None → grid_refusal g ≡ None
       unfolding empty_view first_of
       not-refused e = after_reached ∙ first_of_none (empty_view g) [] (refuse_at-none (lowest_empty_view g) EmptyView e)
 
 -- ---- what then stands in the answers
 
 module _ (refusal : Option Refusal) (g : Grid) (first : List Float) (second : List ℕ) where
-  pub answers-refused : (r : Refusal) → refusal ≡ some r → Answers refusal g first second (Refused r) first second
+  pub answers-refused : (r : Refusal) → refusal ≡ Some r → Answers refusal g first second (Err r) first second
   unfolding outcome_of answered
   answers-refused r e =
       record {
@@ -133,8 +133,8 @@ module _ (refusal : Option Refusal) (g : Grid) (first : List Float) (second : Li
   unfolding chains
   length-chains = length-gather (λ c. parent g c ∷ link_count g c ∷ []) 2 (λ i. refl) g.cameras
 
-  pub answers_solved : (first' : List Float) (second' : List ℕ) → refusal ≡ none → Written g (parent g) (link_count g) first second first' second'
-      → Answers refusal g first second Solved first' second'
+  pub answers_solved : (first' : List Float) (second' : List ℕ) → refusal ≡ None → Written g (parent g) (link_count g) first second first' second'
+      → Answers refusal g first second (Ok tt) first' second'
   unfolding outcome_of answered transforms chains
   answers_solved first' second' e written =
       record {

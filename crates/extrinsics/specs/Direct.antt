@@ -1,23 +1,18 @@
 -- The direct call, by document 01: the grid that its marks and floats make, and its whole outcome, 1 to 9 in their order.
 -- Rests on the checks of `inputs` and the outcome of a grid in `Outcome`.
-use Rattle.std.specs.Prelude.{ℕ, ◌*◌, cond, List, [], ◌∷◌, eqb, Float}
-use Rattle.std.proofs.Math.Option.{Option}
-use Rattle.std.proofs.Math.ListN.{length, get_or}
+use Rattle.std.specs.Prelude.{ℕ, ◌*◌, cond, List, [], ◌∷◌, length, get_or, eqb, Float, Option, None, Some}
 use Rattle.arithmetic.specs.Pose.{pose_at}
 use Rattle.refusal.specs.Table.{first_of}
 use Rattle.refusal.specs.declared.Refusal.{Refusal}
 use Rattle.lists.specs.Lists.{tabulate}
-use Rattle.placing.specs.Grid.{Grid}
+use Rattle.placing.specs.Grid.{Grid, Cell}
 use Rattle.inputs.specs.Inputs.{cell_count, input_refusal}
-use Rattle.extrinsics.specs.Outcome.{grid_refusal, Answers}
-use Rattle.extrinsics.specs.declared.Outcome.{Outcome}
-use Rattle.placing.specs.declared.grid.Cell.{Cell}
-use Rattle.placing.specs.declared.grid.Cell.TheVariants.{Empty, Held}
+use Rattle.extrinsics.specs.Outcome.{Outcome, grid_refusal, Answers}
 
 -- "As the Rust has it, a cell is either empty or holds one pose of seven numbers": 0 marks an empty cell.
 unfoldable pub marked_cell : List ℕ → List Float → ℕ → Cell
 unfolding pose_at
-marked_cell marks floats i = cond (eqb (get_or marks i 0) 0) Empty (Held (pose_at floats (7 * i)))
+marked_cell marks floats i = cond (eqb (get_or marks i 0) 0) None (Some (pose_at floats (7 * i)))
 
 -- A camera count for each view, a mark and seven floats for each cell, and the reference.
 module _ (counts marks : List ℕ) (floats : List Float) (reference : ℕ) where

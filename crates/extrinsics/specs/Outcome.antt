@@ -1,30 +1,24 @@
 -- What an estimate on a grid answers: refusal 7, 8 or 9, or the solved rig; and what then stands in the two lent answers.
 -- Rests on the spots of `Grid`, the poses of `Estimate` and the table of refusals.
-use Rattle.std.specs.Prelude.{ℕ, ◌*◌, ◌≡◌, Bool, List, [], ◌∷◌, ◌++◌, length, get_or, drop, eqb, Float}
-use Rattle.std.proofs.Math.Bool.{true, false, not}
-use Rattle.std.proofs.Math.Option.{Option, none, some}
+use Rattle.std.specs.Prelude.{ℕ, ◌*◌, ◌≡◌, Bool, true, false, not, List, [], ◌∷◌, ◌++◌, length, get_or, drop, eqb, Float, Option, None, Some, Result, Err, Ok}
 use Rattle.arithmetic.specs.Pose.{finite_pose}
 use Rattle.refusal.specs.Table.{refuse_if, refuse_at, first_of}
 use Rattle.refusal.specs.declared.Refusal.{Refusal}
 use Rattle.refusal.specs.declared.Refusal.TheVariants.{NotFinite, Unreached, EmptyView}
 use Rattle.lists.specs.Finding.{lowest, power_sum}
-use Rattle.placing.specs.Grid.{Grid, holds, has_place}
+use Rattle.placing.specs.Grid.{Grid, Cell, holds, has_place}
 use Rattle.placing.specs.Estimate.{transforms, chains}
-use Rattle.placing.specs.declared.grid.Cell.{Cell}
-use Rattle.placing.specs.declared.grid.Cell.TheVariants.{Empty, Held}
-use Rattle.extrinsics.specs.declared.Outcome.{Outcome}
-use Rattle.extrinsics.specs.declared.Outcome.TheVariants.{Refused, Solved}
 
 -- "The numbers of an empty cell are ignored."
 unfoldable pub is_not_finite : Cell → Bool
-is_not_finite Empty = false
-is_not_finite (Held p) = not (finite_pose p)
+is_not_finite None = false
+is_not_finite (Some p) = not (finite_pose p)
 
 module _ (g : Grid) where
   -- 7: "a non-finite number in a held or offered pose; detail is the lowest such cell."
   unfoldable pub lowest_not_finite : Option ℕ
   unfolding lowest is_not_finite
-  lowest_not_finite = lowest (λ i. is_not_finite (get_or g.cells i Empty)) (g.views * g.cameras)
+  lowest_not_finite = lowest (λ i. is_not_finite (get_or g.cells i None)) (g.views * g.cameras)
 
   unfoldable pub not_finite : Option Refusal
   unfolding lowest_not_finite refuse_at
@@ -42,7 +36,7 @@ module _ (g : Grid) where
   -- A view "is empty if it holds none".
   unfoldable pub is_empty_view : ℕ → Bool
   unfolding lowest
-  is_empty_view v = elim (lowest (holds g v) g.cameras) [ some c ↦ false | none ↦ true ]
+  is_empty_view v = elim (lowest (holds g v) g.cameras) [ Some c ↦ false | None ↦ true ]
 
   -- 9: "a view without poses; detail is the lowest such view."
   unfoldable pub lowest_empty_view : Option ℕ
@@ -60,14 +54,17 @@ module _ (g : Grid) where
 
 -- ---- the answer, and lent memory after it
 
+abbrev pub Outcome : Type 0
+Outcome = Result (Unit {0}) Refusal
+
 unfoldable pub outcome_of : Option Refusal → Outcome
-outcome_of (some r) = Refused r
-outcome_of none = Solved
+outcome_of (Some r) = Err r
+outcome_of None = Ok tt
 
 -- A refusal writes nothing; a solved rig's numbers stand in front, and memory beyond them is unchanged.
 unfoldable pub answered {ℓ} : {A : Type ℓ} → Option Refusal → List A → List A → List A
-answered (some r) new old = old
-answered none new old = new ++ drop (length new) old
+answered (Some r) new old = old
+answered None new old = new ++ drop (length new) old
 
 -- Given what is refused, the answer r, and what both lent answers, `first` and `second`, are after it, over their full length.
 pub record Answers (refusal : Option Refusal) (g : Grid) (first : List Float) (second : List ℕ) (r : Outcome) (first' : List Float) (second' : List ℕ) : Type 0 where

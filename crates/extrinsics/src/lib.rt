@@ -5,78 +5,71 @@
 ghost use Rattle.std.specs.Prelude.{◌≤◌, length};
 ghost use Rattle.limits.specs.Limits.{first_needs, second_needs};
 ghost use Rattle.placing.specs.Rig.{rig_grid};
-ghost use Rattle.placing.specs.Inner.Fitting.{Fitting};
+ghost use Rattle.placing.specs.Inner.Lent.{SameAnswers};
 ghost use Rattle.extrinsics.specs.Outcome.{grid_refusal, Answers};
 ghost use Rattle.extrinsics.specs.Direct.{Direct};
 
 pub mod checks;
 
 use chains::layer_cameras;
-use inputs::{Checked, Found, camera_count, check_input, masks_of};
+use inputs::{camera_count, check_input, masks_of};
 use limits::ONE_VIEW;
-use placing::grid::Rig;
+use placing::answer::LentAnswers;
+use placing::grid::{Observations, Rig};
 use placing::write_solved;
 use refusal::Refusal;
 
-// What an estimate answers. The poses of a solved rig stand in the lent answers.
-#[derive(Clone, Copy)]
-pub enum Outcome {
-    Refused(Refusal),
-    Solved,
-}
-
-// The core of every entry: 7, 8 and 9 in this order, or the solved rig. A refusal writes nothing.
-pub fn solve(rig: Rig, floats: &[f64], transforms: &mut [f64], chains: &mut [u8]) -> Outcome
-    requires { Fitting rig floats.now × (first_needs rig.cameras rig.views ≤ length transforms.old) × (second_needs rig.cameras ≤ length chains.old) }
-    ensures { Answers (grid_refusal (rig_grid rig floats.now)) (rig_grid rig floats.now) transforms.old chains.old result transforms.new chains.new }
+// The core of every entry: 7, 8 and 9 in this order, or the solved rig, whose poses then stand in the lent answers. A refusal writes nothing.
+pub fn solve(seen: &Observations<'_>, answers: &mut LentAnswers<'_>) -> Result<(), Refusal>
+    requires { (first_needs seen.now.rig.cameras seen.now.rig.views ≤ length answers.old.transforms.now) × (second_needs seen.now.rig.cameras ≤ length answers.old.chains.now) }
+    ensures answered { Answers (grid_refusal (rig_grid seen.now.rig seen.now.floats.now)) (rig_grid seen.now.rig seen.now.floats.now) answers.old.transforms.now answers.old.chains.now result answers.new.transforms.now answers.new.chains.now }
+    ensures same { SameAnswers answers.old answers.new }
 {
-    if let Found::At(cell) = checks::find_not_finite(rig, floats) {
-        return Outcome::Refused(Refusal::NotFinite(cell));
+    if let Some(cell) = checks::find_not_finite(seen) {
+        return Err(Refusal::NotFinite(cell));
     }
-    let masks = rig.masks;
-    let tree = layer_cameras(masks, rig.cameras, ONE_VIEW, rig.reference);
-    let unreached = checks::unreached_cameras(rig, tree);
+    let rig = &seen.rig;
+    let tree = layer_cameras(rig.masks, rig.cameras, ONE_VIEW, rig.reference);
+    let unreached = checks::unreached_cameras(seen, &tree);
     if unreached != 0 {
-        return Outcome::Refused(Refusal::Unreached(unreached));
+        return Err(Refusal::Unreached(unreached));
     }
-    if let Found::At(view) = checks::find_empty_view(rig) {
-        return Outcome::Refused(Refusal::EmptyView(view));
+    if let Some(view) = checks::find_empty_view(seen) {
+        return Err(Refusal::EmptyView(view));
     }
-    write_solved(rig, floats, tree, transforms, chains);
-    Outcome::Solved
+    write_solved(seen, &tree, answers);
+    Ok(())
 }
 
 // The direct call: per view its count of cameras; a mark for each cell, view after view, 0 empty and 1 a pose; seven floats for
-// each cell; the reference; and the two answers.
+// each cell; the reference; and the two answers, in which the poses of a solved rig stand.
 pub fn estimate_extrinsics_from_cam_target_poses(
     counts: &[u32],
     marks: &[u8],
     floats: &[f64],
     reference: u32,
-    transforms: &mut [f64],
-    chains: &mut [u8],
-) -> Outcome
-    ensures { Direct counts.now marks.now floats.now reference transforms.old chains.old result transforms.new chains.new }
+    answers: &mut LentAnswers<'_>,
+) -> Result<(), Refusal>
+    ensures answered { Direct counts.now marks.now floats.now reference answers.old.transforms.now answers.old.chains.now result answers.new.transforms.now answers.new.chains.now }
+    ensures same { SameAnswers answers.old answers.new }
 {
-    let at = reference as usize;
-    if let Checked::Refused(refusal) = check_input(
+    let reference = reference as usize;
+    check_input(
         counts,
         marks,
         floats.len(),
-        at,
-        transforms.len(),
-        chains.len(),
-    ) {
-        return Outcome::Refused(refusal);
-    }
+        reference,
+        answers.transforms.len(),
+        answers.chains.len(),
+    )?;
     let views = counts.len();
     let cameras = camera_count(counts);
     let rig = Rig {
         masks: masks_of(marks, views, cameras),
-        views: views,
-        cameras: cameras,
-        reference: at,
+        views,
+        cameras,
+        reference,
         stride: cameras,
     };
-    solve(rig, floats, transforms, chains)
+    solve(&Observations { rig, floats }, answers)
 }

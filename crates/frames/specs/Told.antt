@@ -1,11 +1,9 @@
 -- What the program `frames` writes, by document 02, change 3, for an input of any length. Rests on the import of packed frames in `telemetry` and the line of a refusal in `listing`.
-use Rattle.std.specs.Prelude.{ℕ, ◌*◌, ◌≤◌, ◌<◌, ◌≡◌, true, List, [], length, take}
-use Rattle.std.proofs.Math.Option.{Option, none, some}
+use Rattle.std.specs.Prelude.{ℕ, ◌*◌, ◌≤◌, ◌<◌, ◌≡◌, List, [], length, take, Option, None, Some, Result, Ok, Err, IfOk, IfErr}
 use Rattle.refusal.specs.declared.Refusal.{Refusal}
 use Rattle.command.specs.Command.{pose_width}
 use Rattle.listing.specs.Listing.{refusal_line}
 use Rattle.telemetry.specs.Frames.{frames_in, command_bytes, frames_refusal, RefusedAlike}
-use Rattle.frames.specs.declared.Answer.{Answer}
 use Rattle.frames.specs.declared.Reading.{Reading}
 
 -- ---- what goes where
@@ -16,19 +14,29 @@ refusal_of bytes = frames_refusal (length bytes) (pose_width * frames_in bytes)
 
 -- To standard output: the commands, or nothing. To standard error: nothing, or the line of the refusal.
 unfoldable pub output_by : Option Refusal → List ℕ → List ℕ
-output_by none commands = commands
-output_by (some r) commands = []
+output_by None commands = commands
+output_by (Some r) commands = []
 
 unfoldable pub error_by : Option Refusal → List ℕ
-error_by none = []
-error_by (some r) = refusal_line r
+error_by None = []
+error_by (Some r) = refusal_line r
 
--- So many bytes at the front of each memory are what goes there.
-pub record Told (bytes : List ℕ) (answer : Answer) (commands line : List ℕ) : Type 0 where
-  pub to_output : take answer.commands commands ≡ output_by (refusal_of bytes) (command_bytes bytes)
-  pub to_error : take answer.line line ≡ error_by (refusal_of bytes)
-  pub output_within : answer.commands ≤ length commands
-  pub error_within : answer.line ≤ length line
+-- So many bytes at the front of the commands go to standard output and nothing to standard error, or so many of the line to standard error and nothing to
+-- standard output.
+abbrev pub put_of : Result ℕ ℕ → List ℕ → List ℕ
+put_of (Ok count) commands = take count commands
+put_of (Err count) commands = []
+
+abbrev pub told_of : Result ℕ ℕ → List ℕ → List ℕ
+told_of (Ok count) line = []
+told_of (Err count) line = take count line
+
+-- What goes where is what belongs there.
+pub record Told (bytes : List ℕ) (answer : Result ℕ ℕ) (commands line : List ℕ) : Type 0 where
+  pub to_output : put_of answer commands ≡ output_by (refusal_of bytes) (command_bytes bytes)
+  pub to_error : told_of answer line ≡ error_by (refusal_of bytes)
+  pub output_within : IfOk answer (λ count. count ≤ length commands)
+  pub error_within : IfErr answer (λ count. count ≤ length line)
 
 -- ---- inputs of any length
 
@@ -38,4 +46,4 @@ input_bytes = 65536
 -- What is kept of an input that was read to its end is refused as the whole of it would be, and where that passes it is all of it.
 pub record Taken (reading : Reading) : Type 0 where
   pub within : reading.kept < input_bytes
-  pub alike : reading.ended ≡ true → RefusedAlike reading.kept reading.whole
+  pub alike : RefusedAlike reading.kept reading.whole

@@ -3,65 +3,44 @@ use Prim.Native.Nat.{ℕ, ◌^◌, ◌<◌}
 use native.Mathlib.Omega.{arith}
 use mathlib.Core.Path.{◌≡◌, refl}
 use mathlib.Core.Bool.{Bool, true, false}
-use mathlib.Core.Option.{Option, none, some}
+use Rattle.std.specs.Prelude.{Option, None, Some}
 use mathlib.Core.List.{List, [], ◌∷◌}
-use lib.Dec.{eqb, leb, ltb}
 use Rattle.refusal.specs.Table.{detail_of, refuse_if, refuse_at, first_of}
 use Rattle.refusal.specs.declared.Refusal.{Refusal}
 use Rattle.refusal.specs.declared.Refusal.TheVariants.{InsufficientData, TooMany, InvalidReference}
-use Rattle.limits.specs.Limits.{max_views, max_cameras}
 use Rattle.inputs.specs.Inputs.{size_refusal}
 
 -- What is refused, if anything, is such.
 abbrev pub If : (Refusal → Type 0) → Option Refusal → Type 0
-If Such none = Unit {0}
-If Such (some q) = Such q
+If Such None = Unit {0}
+If Such (Some q) = Such q
 
 -- Each check of a list refuses with such, if at all, given that those before it found nothing.
 abbrev pub InTurn : (Refusal → Type 0) → List (Option Refusal) → Type 0
 InTurn Such [] = Unit {0}
-InTurn Such (check ∷ later) = If Such check × (check ≡ none → InTurn Such later)
+InTurn Such (check ∷ later) = If Such check × (check ≡ None → InTurn Such later)
 
 module _ (Such : Refusal → Type 0) where
   pub if_first_of : (checks : List (Option Refusal)) → InTurn Such checks → If Such (first_of checks)
   unfolding first_of
   if_first_of [] h = tt
-  if_first_of (some q ∷ later) (h, k) = h
-  if_first_of (none ∷ later) (h, k) = if_first_of later (k refl)
+  if_first_of (Some q ∷ later) (h, k) = h
+  if_first_of (None ∷ later) (h, k) = if_first_of later (k refl)
 
   pub if_refuse_if : (b : Bool) (q : Refusal) → Such q → If Such (refuse_if b q)
   unfolding refuse_if
   if_refuse_if true q h = h
   if_refuse_if false q h = tt
 
-  pub if_refuse_at : (o : Option ℕ) (refusal : ℕ → Refusal) → ((n : ℕ) → o ≡ some n → Such (refusal n)) → If Such (refuse_at o refusal)
+  pub if_refuse_at : (o : Option ℕ) (refusal : ℕ → Refusal) → ((n : ℕ) → o ≡ Some n → Such (refusal n)) → If Such (refuse_at o refusal)
   unfolding refuse_at
-  if_refuse_at none refusal h = tt
-  if_refuse_at (some n) refusal h = h n refl
+  if_refuse_at None refusal h = tt
+  if_refuse_at (Some n) refusal h = h n refl
 
   pub if_size_refusal : Such InsufficientData → Such TooMany → Such InvalidReference
       → (views cameras reference : ℕ) → If Such (size_refusal views cameras reference)
   unfolding size_refusal
-  if_size_refusal too_few too_many outside views cameras reference =
-      if_first_of
-      (refuse_if (eqb views 0) InsufficientData
-      ∷ refuse_if (ltb max_views views) TooMany
-      ∷ refuse_if (eqb cameras 0) InsufficientData
-      ∷ refuse_if (ltb max_cameras cameras) TooMany
-      ∷ refuse_if (leb cameras reference) InvalidReference
-      ∷ []) (
-        if_refuse_if (eqb views 0) InsufficientData too_few,
-        λ e. (
-          if_refuse_if (ltb max_views views) TooMany too_many,
-          λ e. (
-            if_refuse_if (eqb cameras 0) InsufficientData too_few,
-            λ e. (
-              if_refuse_if (ltb max_cameras cameras) TooMany too_many,
-              λ e. (if_refuse_if (leb cameras reference) InvalidReference outside, λ e. tt),
-            ),
-          ),
-        ),
-      )
+  if_size_refusal too_few too_many outside views cameras reference = grind arith
 
 -- ---- "a 32-bit detail"
 

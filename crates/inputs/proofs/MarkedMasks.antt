@@ -1,7 +1,6 @@
 -- Marks as masks: which bits a sum of powers of two has, and which views the mask that marks make. Assumes nothing.
 use Prim.Native.Nat.{ℕ, zero, suc, ◌+◌, ◌-◌, ◌*◌, ◌/◌, ◌%◌, ◌^◌, ◌<◌}
 use native.Mathlib.Nat.{eq-or-lt_of_le, le_of_suc-le-suc, add-mul-mod_self_right}
-use native.Mathlib.Numerals.{add-one}
 use native.Mathlib.Omega.{arith}
 use mathlib.Core.Path.{◌≡◌, refl, sym, ap, ◌∙◌}
 use mathlib.Core.Logic.{⊎_elim}
@@ -10,7 +9,6 @@ use mathlib.Core.List.{List}
 use lib.ListN.{get_or}
 use lib.Dec.{eqb}
 use lib.Pow.{pow-add, high, field}
-use borrow.Author.Tests.{eq-eqb, ne_eqb}
 use Rattle.lists.specs.Masks.{in_mask}
 use Rattle.lists.specs.Finding.{power_sum}
 use Rattle.inputs.specs.Inner.Marks.{mask_of}
@@ -33,8 +31,8 @@ module _ (test : ℕ → Bool) where
   power_sum_bit_last n = go (test n)
     where
       go : (t : Bool) → (power_sum test n + cond t (2 ^ n) 0) / 2 ^ n % 2 ≡ cond t 1 0
-      go true = ap (λ (x : ℕ). x / 2 ^ n % 2) (omega arith) ∙ ap (λ (x : ℕ). x % 2) (high 1 n (power_sum-lt test n))
-      go false = ap (λ (x : ℕ). x / 2 ^ n % 2) (omega arith) ∙ ap (λ (x : ℕ). x % 2) (high 0 n (power_sum-lt test n))
+      go true = grind (arith, high 1 n (power_sum-lt test n))
+      go false = grind (arith, high 0 n (power_sum-lt test n))
 
   power_sum_bit_before : (n v : ℕ) → v < n → power_sum test (suc n) / 2 ^ v % 2 ≡ power_sum test n / 2 ^ v % 2
   unfolding power_sum
@@ -42,7 +40,7 @@ module _ (test : ℕ → Bool) where
     where
       go : (t : Bool) → (power_sum test n + cond t (2 ^ n) 0) / 2 ^ v % 2 ≡ power_sum test n / 2 ^ v % 2
       go true = bit_below (power_sum test n) n v h
-      go false = ap (λ (x : ℕ). x / 2 ^ v % 2) (omega arith)
+      go false = grind arith
 
   pub in_mask-power_sum : (n v : ℕ) → v < n → in_mask (power_sum test n) v ≡ test v
   unfolding in_mask
@@ -71,12 +69,3 @@ module _ (marks : List ℕ) (cameras c : ℕ) where
   pub in_mask_mask_of : (views v : ℕ) → v < views → in_mask (mask_of marks cameras views c) v ≡ not (eqb (get_or marks (v * cameras + c) 0) 0)
   unfolding mask_of
   in_mask_mask_of views v h = in_mask-power_sum (λ u. not (eqb (get_or marks (u * cameras + c) 0) 0)) views v h
-
-  pub mask_of_marked : (view : ℕ) → (get_or marks (view * cameras + c) 0 ≡ 0 → ⊥)
-      → mask_of marks cameras (view + 1) c ≡ mask_of marks cameras view c + 2 ^ view
-  unfolding mask_of power_sum
-  mask_of_marked view h = rw (add-one, ne_eqb _ _ h)
-
-  pub mask_of_unmarked : (view : ℕ) → get_or marks (view * cameras + c) 0 ≡ 0 → mask_of marks cameras (view + 1) c ≡ mask_of marks cameras view c
-  unfolding mask_of power_sum
-  mask_of_unmarked view h = rw (add-one, eq-eqb _ _ h) (omega arith)

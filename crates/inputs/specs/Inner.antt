@@ -1,3 +1,2 @@
 -- What the functions of `inputs` promise each other; no demand rests on it. Definitions only.
-pub mod Finding
 pub mod Marks

@@ -1,14 +1,11 @@
 -- The checks of the direct call's inputs, by document 01: 1 to 6 in their order.
 -- Rests on the table of refusals.
-use Rattle.std.specs.Prelude.{ℕ, ◌*◌, not, ◌||◌, List, [], ◌∷◌, length, get_or, eqb, leb, ltb}
-use Rattle.std.proofs.Math.Option.{Option, none, some}
+use Rattle.std.specs.Prelude.{ℕ, ◌*◌, not, ◌||◌, List, [], ◌∷◌, length, get_or, eqb, leb, ltb, Option, None, Some, Result, Err, Ok}
 use Rattle.refusal.specs.Table.{refuse_if, refuse_at, first_of}
 use Rattle.refusal.specs.declared.Refusal.{Refusal}
 use Rattle.refusal.specs.declared.Refusal.TheVariants.{InsufficientData, TooMany, InvalidReference, CountDiffers, WrongLength, BadMark}
 use Rattle.limits.specs.Limits.{max_views, max_cameras, first_needs, second_needs}
 use Rattle.lists.specs.Finding.{lowest}
-use Rattle.inputs.specs.declared.Checked.{Checked}
-use Rattle.inputs.specs.declared.Checked.TheVariants.{Refused, Passed}
 
 -- 1, 2 and 3: "views for 1 then 2, cameras of view 0 for 1 then 2, then 3".
 unfoldable pub size_refusal : ℕ → ℕ → ℕ → Option Refusal
@@ -68,6 +65,9 @@ input_refusal counts marks floats reference first_room second_room =
 
 -- ---- what the checks answer
 
+abbrev pub Checked : Type 0
+Checked = Result (Unit {0}) Refusal
+
 unfoldable pub checked_of : Option Refusal → Checked
-checked_of (some r) = Refused r
-checked_of none = Passed
+checked_of (Some r) = Err r
+checked_of None = Ok tt

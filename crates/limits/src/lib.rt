@@ -1,4 +1,5 @@
 // The limits of document 01, and the layout of the two answers.
+#![tactic(auto)]
 
 // As many views as a rig may have: one for each bit of a mask.
 pub const MAX_VIEWS: usize = 64;

@@ -7,9 +7,7 @@ use mathlib.Core.Path.{◌≡◌, refl, sym, ap, ◌∙◌, subst}
 use mathlib.Core.Bool.{true}
 use mathlib.Core.List.{List, [], ◌∷◌, ◌++◌}
 use lib.ListN.{length, length-append}
-use lib.Dec.{T}
-use lib.Ieee.{Float, binary64, ne, to_bits}
-use lib.Ieee.Compare.{differs_from_itself}
+use lib.Ieee.{Float, nan, inf, fin, binary64, is_nan, to_bits}
 use borrow.Author.Tests.{lt-ltb, le-ltb}
 use Rattle.io.specs.Digits.{hex_digit_ascii, last_digits, IsDigitCount}
 use Rattle.listing.specs.Listing.{decimal_within, decimal_text, float_text}
@@ -72,19 +70,25 @@ pub digits_decimal_text : (n k : ℕ) → n < 2 ^ 64 → IsDigitCount 10 1 n k �
 unfolding decimal_text
 digits_decimal_text n k h f = sym (decimal_within_digits 20 k n (fewest_le 10 1 n k 20 (omega arith) (omega arith) (omega arith) f) f)
 
-pub length-decimal_text : (n k : ℕ) → n < 2 ^ 64 → IsDigitCount 10 1 n k → length (decimal_text n) ≡ k
-length-decimal_text n k h f = ap length (sym (digits_decimal_text n k h f)) ∙ length_digits 10 k n
-
 pub length-decimal_text-le : (k n : ℕ) → n < 10 ^ suc k → length (decimal_text n) ≤ suc k
 unfolding decimal_text
 length-decimal_text-le k n h = length-decimal_within-le 20 k n h
 
+-- A number of 8 bits has at most three digits, and one of 32 bits ten.
+pub length_small : (n : ℕ) → n < 256 → length (decimal_text n) ≤ 3
+length_small n h = length-decimal_text-le 2 n (omega arith)
+
+pub length_number : (n : ℕ) → n < 2 ^ 32 → length (decimal_text n) ≤ 10
+length_number n h = length-decimal_text-le 9 n (omega arith)
+
 -- ---- a float's bits
 
--- What differs from itself is a NaN, whose text is that of one pattern.
-pub to_bits_nan : (x : Float) → ne x x ≡ true → 0x7ff8_0000_0000_0000 ≡ to_bits binary64 x
-unfolding to_bits
-to_bits_nan x h = ap (to_bits binary64) (sym (differs_from_itself x (subst T (sym h) tt)))
+-- A NaN's text is that of one pattern.
+pub to_bits_nan : (x : Float) → is_nan x ≡ true → 0x7ff8_0000_0000_0000 ≡ to_bits binary64 x
+unfolding is_nan to_bits
+to_bits_nan nan h = refl
+to_bits_nan (inf s) h = cc
+to_bits_nan (fin s m e) h = cc
 
 pub fewest_sixteen : (n k : ℕ) → n < 2 ^ 64 → IsDigitCount 16 16 n k → k ≡ 16
 fewest_sixteen n k h f = omega (arith, f.0, fewest_le 16 16 n k 16 (omega arith) (omega arith) h f)

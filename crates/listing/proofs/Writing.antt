@@ -6,7 +6,8 @@ use mathlib.Core.Path.{◌≡◌, refl, sym, ◌∙◌}
 use mathlib.Core.List.{List, []}
 use lib.ListN.{length}
 use lib.Seq.{length-take-le}
-use Rattle.putting.specs.Inner.Putting.{Put}
+use Rattle.putting.specs.Inner.Putting.{Put, Puts}
+use Rattle.putting.specs.declared.Writer.{Writer}
 use Rattle.putting.proofs.Putting.{put_length}
 use Rattle.listing.specs.Writing.{Front}
 
@@ -23,3 +24,7 @@ put_front {old} {text} {new} {next} p =
 
 pub front-nothing : (old : List ℕ) → Front old [] old 0
 front-nothing old = record { text_length = refl; text_bytes_is = refl; within = omega arith; taken = refl }
+
+-- What a new writer has put is at the front.
+pub puts_front : {before after : Writer} {text : List ℕ} → Puts before text after → before.used ≡ 0 → Front before.bytes.now text after.bytes.now after.used
+puts_front p new = put_front (rw new at p.put)

@@ -12,10 +12,11 @@ use Rattle.limits.specs.Limits.{max_views, max_cameras, first_needs, second_need
 use Rattle.session_record.specs.Session.{held_of}
 use Rattle.session_commands.specs.Obeyed.{State}
 use Rattle.session.specs.Call.{call}
-use Rattle.session_commands.specs.declared.Reply.{Reply}
-use Rattle.session_commands.specs.declared.Reply.TheVariants.{End, Accepted, Solved, Refused}
+use Rattle.session_commands.specs.Reply.{Reply}
 use Rattle.session.proofs.SolvedCalls.{HoldsRig, call_solved}
 use Rattle.listing.specs.Listing.{reply_text, printed_text, printed_by, listing_bytes, sized, fits, written}
+use Rattle.std.specs.Prelude.{Err, Ok}
+use Rattle.session_commands.specs.declared.Done.TheVariants.{Accepted, End, Solved}
 
 cond_same {ℓ} : {A : Type ℓ} (b : Bool) (x : A) → cond b x x ≡ x
 cond_same true x = refl
@@ -33,13 +34,13 @@ module _ (t : State) where
       )
 
   -- A rig that is to be printed is there, so that the text is written wherever any listing has room.
-  written_held : (reply : Reply) (room : ℕ) → (reply ≡ Solved → HoldsRig t)
+  written_held : (reply : Reply) (room : ℕ) → (reply ≡ Ok Solved → HoldsRig t)
       → written reply (held_of t.session) t.first t.second room ≡ cond (leb listing_bytes room) (printed_text reply t) []
   unfolding written fits reply_text
-  written_held End room h = sym (cond_same (leb listing_bytes room) [])
-  written_held Accepted room h = sym (cond_same (leb listing_bytes room) [])
-  written_held Solved room h = rw (sized_of_holding (h refl))
-  written_held (Refused r) room h = refl
+  written_held (Ok End) room h = sym (cond_same (leb listing_bytes room) [])
+  written_held (Ok Accepted) room h = sym (cond_same (leb listing_bytes room) [])
+  written_held (Ok Solved) room h = rw (sized_of_holding (h refl))
+  written_held (Err r) room h = refl
 
 module _ (t : State) (stream : List ℕ) (at : ℕ) where
   pub written-call : (room : ℕ)

@@ -13,9 +13,10 @@ use Rattle.lists.specs.Lists.{gather}
 use Rattle.session_commands.specs.Obeyed.{State, Result}
 use Rattle.session_record.specs.Session.{held_of}
 use Rattle.session_record.specs.declared.Held.{Held}
-use Rattle.session_commands.specs.declared.Reply.{Reply}
-use Rattle.session_commands.specs.declared.Reply.TheVariants.{End, Accepted, Solved, Refused}
+use Rattle.session_commands.specs.Reply.{Reply}
 use Rattle.listing.specs.Widths.{ok_bytes, camera_bytes, view_bytes}
+use Rattle.std.specs.Prelude.{Err, Ok}
+use Rattle.session_commands.specs.declared.Done.TheVariants.{Accepted, End, Solved}
 
 abbrev pub blank : ℕ
 blank = 32
@@ -110,10 +111,10 @@ solved_text fields held first second =
 
 -- "an accepted command but Solve prints nothing"; nor does the end.
 unfoldable pub reply_text : Reply → Held → List Float → List ℕ → List ℕ
-reply_text End held first second = []
-reply_text Accepted held first second = []
-reply_text Solved held first second = solved_text pose_fields held first second
-reply_text (Refused r) held first second = refusal_line r
+reply_text (Ok End) held first second = []
+reply_text (Ok Accepted) held first second = []
+reply_text (Ok Solved) held first second = solved_text pose_fields held first second
+reply_text (Err r) held first second = refusal_line r
 
 -- What a reply prints, after which this stands in the record and in both answers.
 abbrev pub printed_text : Reply → State → List ℕ
@@ -138,10 +139,10 @@ sized held first second =
 
 -- There is room for what a reply prints, and a rig that is to be printed is there.
 unfoldable pub fits : Reply → Held → List Float → List ℕ → ℕ → Bool
-fits End held first second room = true
-fits Accepted held first second room = true
-fits Solved held first second room = sized held first second && leb listing_bytes room
-fits (Refused r) held first second room = leb listing_bytes room
+fits (Ok End) held first second room = true
+fits (Ok Accepted) held first second room = true
+fits (Ok Solved) held first second room = sized held first second && leb listing_bytes room
+fits (Err r) held first second room = leb listing_bytes room
 
 -- What is written for a reply into memory of so many bytes: its text, or nothing where that does not fit.
 unfoldable pub written : Reply → Held → List Float → List ℕ → ℕ → List ℕ

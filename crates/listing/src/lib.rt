@@ -1,76 +1,69 @@
 // The lines that `rig` prints, and the line of a refusal, which `frames` tells too, made as bytes in lent memory. specs/Listing.antt says which bytes.
+// Kept: fields put by hand, and no `write!`, which promises its bytes only where it answers Ok, and nowhere that it does: a line is promised wherever it fits.
 #![tactic(auto)]
 
-ghost use Rattle.std.specs.Prelude.{◌≡◌, cond, [], length, leb};
-ghost use Rattle.session_commands.specs.declared.Reply.TheVariants.{Solved};
+ghost use Rattle.std.specs.Prelude.{◌≡◌, ◌-◌, cond, [], length, leb, Ok};
+ghost use Rattle.session_commands.specs.declared.Done.TheVariants.{Solved};
 ghost use Rattle.listing.specs.Listing.{refusal_line, listing_bytes, sized, written};
-ghost use Rattle.listing.specs.Writing.{Front};
+ghost use Rattle.putting.specs.Inner.Putting.{Puts};
 
 mod lines;
 mod text;
 
 use crate::lines::{put_refusal, put_solved};
 use limits::{CHAIN_BYTES, MAX_CAMERAS, MAX_VIEWS, POSE_FLOATS};
+use placing::answer::LentAnswers;
+use putting::Writer;
 use refusal::Refusal;
-use session_commands::Reply;
+use session_commands::Done;
 use session_record::Held;
 
 // Memory of this length holds every listing: the ok line, 16 cameras and 64 views, each line as long as any.
 pub const LISTING_BYTES: usize = 10139;
 
-// The text of a reply at the front of `out`, and its length; nothing where it does not fit. Memory behind the text is unchanged.
+// Puts the text of a reply; nothing where it does not fit.
+#[tactic(auto, using(putting::proofs::Putting::puts_nothing), unfolding(crate::specs::Listing::written, crate::specs::Listing::fits, crate::specs::Listing::reply_text))]
 pub fn write_reply(
-    reply: Reply,
+    reply: Result<Done, Refusal>,
     held: Held,
-    transforms: &[f64],
-    chains: &[u8],
-    out: &mut [u8],
-) -> usize
-    ensures { Front out.old (written reply held transforms.now chains.now (length out.old)) out.new result }
+    answers: &LentAnswers<'_>,
+    writer: &mut Writer<'_>,
+)
+    ensures { Puts writer.old (written reply held answers.now.transforms.now answers.now.chains.now (length writer.old.bytes.now - writer.old.used)) writer.new }
 {
     match reply {
-        Reply::End => 0,
-        Reply::Accepted => 0,
-        Reply::Solved => write_solved(held, transforms, chains, out),
-        Reply::Refused(refusal) => write_refusal(refusal, out),
+        Ok(Done::End | Done::Accepted) => {}
+        Ok(Done::Solved) => write_solved(held, answers, writer),
+        Err(refusal) => write_refusal(refusal, writer),
     }
 }
 
-fn write_solved(held: Held, transforms: &[f64], chains: &[u8], out: &mut [u8]) -> usize
-    ensures { Front out.old (written Solved held transforms.now chains.now (length out.old)) out.new result }
+#[tactic(auto, using(putting::proofs::Putting::puts_nothing), unfolding(crate::specs::Listing::written, crate::specs::Listing::fits, crate::specs::Listing::reply_text, crate::specs::Listing::sized))]
+fn write_solved(held: Held, answers: &LentAnswers<'_>, writer: &mut Writer<'_>)
+    ensures { Puts writer.old (written (Ok Solved) held answers.now.transforms.now answers.now.chains.now (length writer.old.bytes.now - writer.old.used)) writer.new }
 {
-    if !is_sized(held, transforms, chains) {
-        return 0;
+    if is_sized(held, answers) && LISTING_BYTES <= writer.room() {
+        put_solved(writer, held, answers);
     }
-    if out.len() < LISTING_BYTES {
-        return 0;
-    }
-    put_solved(out, held, transforms, chains)
 }
 
-// The line of a refusal at the front of `out`, and its length; nothing where `out` would not hold a listing.
-pub fn write_refusal(refusal: Refusal, out: &mut [u8]) -> usize
-    ensures { Front out.old (cond (leb listing_bytes (length out.old)) (refusal_line refusal) []) out.new result }
+// Puts the line of a refusal; nothing where a listing would not fit.
+pub fn write_refusal(refusal: Refusal, writer: &mut Writer<'_>)
+    ensures { Puts writer.old (cond (leb listing_bytes (length writer.old.bytes.now - writer.old.used)) (refusal_line refusal) []) writer.new }
 {
-    if out.len() < LISTING_BYTES {
-        return 0;
+    if LISTING_BYTES <= writer.room() {
+        put_refusal(writer, refusal);
     }
-    put_refusal(out, 0, refusal)
 }
 
-fn is_sized(held: Held, transforms: &[f64], chains: &[u8]) -> bool
-    ensures { result ≡ sized held transforms.now chains.now }
+#[tactic(auto, unfolding(crate::specs::Listing::sized))]
+fn is_sized(held: Held, answers: &LentAnswers<'_>) -> bool
+    ensures { result ≡ sized held answers.now.transforms.now answers.now.chains.now }
 {
-    let cameras = held.cameras as usize;
-    let views = held.views as usize;
-    if cameras > MAX_CAMERAS {
-        return false;
-    }
-    if views > MAX_VIEWS {
-        return false;
-    }
-    if transforms.len() < POSE_FLOATS * (cameras + views) {
-        return false;
-    }
-    CHAIN_BYTES * cameras <= chains.len()
+    let cameras = usize::from(held.cameras);
+    let views = usize::from(held.views);
+    cameras <= MAX_CAMERAS
+        && views <= MAX_VIEWS
+        && POSE_FLOATS * (cameras + views) <= answers.transforms.len()
+        && CHAIN_BYTES * cameras <= answers.chains.len()
 }

@@ -1,6 +1,6 @@
 -- Tests over the numbers below a bound: whether all pass, how many do, the lowest that does, and those that do as a sum of powers of two. Assumes nothing.
 use Rattle.std.specs.Prelude.{ℕ, zero, suc, ◌+◌, ◌^◌, Bool, true, ◌&&◌, cond}
-use Rattle.std.proofs.Math.Option.{Option, none, some}
+use Rattle.std.specs.Prelude.{Option, None, Some}
 
 -- Whether all numbers below n pass the test.
 unfoldable pub all_below : (ℕ → Bool) → ℕ → Bool
@@ -14,8 +14,8 @@ count test (suc m) = cond (test m) (suc (count test m)) (count test m)
 
 -- The lowest number below n that passes the test.
 unfoldable pub lowest : (ℕ → Bool) → ℕ → Option ℕ
-lowest test zero = none
-lowest test (suc n) = elim (lowest test n) [ some i ↦ some i | none ↦ cond (test n) (some n) none ]
+lowest test zero = None
+lowest test (suc n) = elim (lowest test n) [ Some i ↦ Some i | None ↦ cond (test n) (Some n) None ]
 
 -- "sums 2 to the power c over those" numbers below n that pass the test.
 unfoldable pub power_sum : (ℕ → Bool) → ℕ → ℕ

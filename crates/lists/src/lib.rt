@@ -1,1 +1,2 @@
 // No code: lists, counts, searches and bits, and their laws.
+#![tactic(auto)]

@@ -1,9 +1,8 @@
 -- Laws of averaging one pose at a time: what `Average` holds after the poses of a list is `taken` of that list, and its mean is the list's average.
 -- Assumes nothing.
-use Rattle.std.proofs.Common.{◌≡◌, suc, ◌+◌, ◌^◌, ◌<◌, List, [], ◌∷◌, ◌++◌, length, refl, ap₂, mod-eq_of_lt, arith, length-append, ne_eqb}
+use Rattle.std.proofs.Common.{◌≡◌, ◌+◌, ◌^◌, ◌<◌, List, [], ◌∷◌, ◌++◌, length, refl, ap₂, mod-eq_of_lt, length-append}
 use mathlib.Core.List.{foldl-append}
-use Rattle.arithmetic.specs.Pose.{zero_vec}
-use Rattle.mean.specs.Average.{zero_quat, plus_translation, plus_rotation, translation_sum, rotation_sum, first_rotation, mean_of, average_isometries}
+use Rattle.mean.specs.Average.{translation_sum, rotation_sum, first_rotation, mean_of, average_isometries}
 use Rattle.mean.specs.Inner.Taking.{taken, plus_pose}
 use Rattle.arithmetic.specs.declared.pose.Vec3.{Vec3}
 use Rattle.arithmetic.specs.declared.pose.Quaternion.{Quaternion}
@@ -14,13 +13,7 @@ pub taken-append : (l : List Pose) (p : Pose) → length l + 1 < 2 ^ 32 → plus
 unfolding plus_pose taken
 taken-append [] p h = refl
 taken-append (o ∷ l) p h =
-    simp (
-      foldl-append plus_translation zero_vec (o ∷ l) (p ∷ []),
-      foldl-append (plus_rotation o.rotation) zero_quat (o ∷ l) (p ∷ []),
-      length-append (o ∷ l) (p ∷ []),
-      mod-eq_of_lt h,
-      ne_eqb (suc (length l)) 0 (omega arith),
-    )
+    simp (foldl-append, length-append, mod-eq_of_lt h)
 
 pub mean_taken : (l : List Pose) → mean_of (taken l).count (taken l).translations (taken l).rotations ≡ average_isometries l
 unfolding taken average_isometries

@@ -4,9 +4,9 @@ use Rattle.std.specs.Prelude.{ℕ, cond, List, [], ◌∷◌, length, pos, Float
 use mathlib.Core.List.{foldl}
 use Rattle.std.specs.Float.{binary64}
 use Rattle.std.specs.Float.Ieee.{neg, lt, eq, of_int}
-use Rattle.arithmetic.specs.Double.{◌⊕◌, ◌⊗◌, ◌⊘◌, Zero, One}
+use Rattle.arithmetic.specs.Double.{Zero, One}
 use Rattle.root.specs.Root.{root_of}
-use Rattle.arithmetic.specs.Pose.{vec3, zero_vec, add_vec, quaternion, identity_quat, dot, norm_squared, pose}
+use Rattle.arithmetic.specs.Pose.{zero_vec, add_vec, over_vec, quaternion, identity_quat, add_quat, times_quat, over_quat, dot, norm_squared, pose}
 use Rattle.arithmetic.specs.declared.pose.Vec3.{Vec3}
 use Rattle.arithmetic.specs.declared.pose.Quaternion.{Quaternion}
 use Rattle.arithmetic.specs.declared.pose.Pose.{Pose}
@@ -15,18 +15,6 @@ use Rattle.arithmetic.specs.declared.pose.Pose.{Pose}
 
 abbrev pub zero_quat : Quaternion
 zero_quat = quaternion Zero Zero Zero Zero
-
-abbrev pub add_quat : Quaternion → Quaternion → Quaternion
-add_quat p q = quaternion (p.i ⊕ q.i) (p.j ⊕ q.j) (p.k ⊕ q.k) (p.w ⊕ q.w)
-
-abbrev pub times_quat : Quaternion → Float → Quaternion
-times_quat q s = quaternion (q.i ⊗ s) (q.j ⊗ s) (q.k ⊗ s) (q.w ⊗ s)
-
-abbrev pub over_quat : Quaternion → Float → Quaternion
-over_quat q s = quaternion (q.i ⊘ s) (q.j ⊘ s) (q.k ⊘ s) (q.w ⊘ s)
-
-abbrev pub over_vec : Vec3 → Float → Vec3
-over_vec v s = vec3 (v.x ⊘ s) (v.y ⊘ s) (v.z ⊘ s)
 
 -- Each number divided by the root of the squared norm.
 unfoldable pub normalize : Quaternion → Quaternion

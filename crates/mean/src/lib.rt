@@ -3,46 +3,26 @@
 #![tactic(auto)]
 
 ghost use Rattle.std.specs.Prelude.{◌≡◌, []};
-ghost use Rattle.mean.specs.Average.{sign, plus_translation, plus_rotation, over_vec, over_quat, normalize, mean_rotation, mean_of};
-ghost use Rattle.mean.specs.Inner.Taking.{taken, first_of, plus_pose};
+ghost use Rattle.mean.specs.Average.{sign, plus_rotation, normalize, mean_rotation, mean_of};
+ghost use Rattle.mean.specs.Inner.Taking.{taken, plus_pose};
 
 use arithmetic::pose::{Pose, Quaternion, Vec3};
 use root::sqrt;
 
-// The sums of the poses taken so far, how many there were, and the first one's rotation.
+// The rotation of the first pose taken, if any was, the sums of the poses taken so far, and how many there were.
 #[derive(Clone, Copy)]
 pub struct Average {
-    pub first: Quaternion,
+    pub first: Option<Quaternion>,
     pub translations: Vec3,
     pub rotations: Quaternion,
     pub count: u32,
 }
 
-fn divide_vector(v: Vec3, n: f64) -> Vec3
-    ensures { result ≡ over_vec v n }
-{
-    Vec3 {
-        x: v.x / n,
-        y: v.y / n,
-        z: v.z / n,
-    }
-}
-
-fn divide_quaternion(q: Quaternion, n: f64) -> Quaternion
-    ensures { result ≡ over_quat q n }
-{
-    Quaternion {
-        i: q.i / n,
-        j: q.j / n,
-        k: q.k / n,
-        w: q.w / n,
-    }
-}
-
+#[tactic(auto, unfolding(crate::specs::Average::normalize))]
 fn normalize(q: Quaternion) -> Quaternion
     ensures { result ≡ normalize q }
 {
-    divide_quaternion(q, sqrt(q.norm_squared()))
+    q / sqrt(q.norm_squared())
 }
 
 // The sign that brings q into the hemisphere of `first`. A dot product of 0 leaves q as it is.
@@ -52,54 +32,34 @@ fn hemisphere(first: Quaternion, q: Quaternion) -> f64
     if first.dot(q) < 0.0 { -1.0 } else { 1.0 }
 }
 
+#[tactic(auto, unfolding(crate::specs::Average::plus_rotation))]
 fn add_rotation(first: Quaternion, sum: Quaternion, p: Pose) -> Quaternion
     ensures { result ≡ plus_rotation first sum p }
 {
     let q = p.rotation;
-    let s = hemisphere(first, q);
-    Quaternion {
-        i: sum.i + q.i * s,
-        j: sum.j + q.j * s,
-        k: sum.k + q.k * s,
-        w: sum.w + q.w * s,
-    }
-}
-
-fn add_translation(sum: Vec3, p: Pose) -> Vec3
-    ensures { result ≡ plus_translation sum p }
-{
-    sum.add(p.translation)
+    sum + q * hemisphere(first, q)
 }
 
 // Opposite rotations can cancel: a sum of squared norm 0 has no direction, and the identity stands in.
 // It is normalised twice, as the Rust's `normalize` and `from_quaternion` both do.
+#[tactic(auto, unfolding(crate::specs::Average::mean_rotation))]
 fn mean_rotation(count: f64, sum: Quaternion) -> Quaternion
     ensures { result ≡ mean_rotation count sum }
 {
     if sum.norm_squared() == 0.0 {
         return Quaternion::identity();
     }
-    let once = normalize(divide_quaternion(sum, count));
-    let twice = normalize(once);
-    twice
-}
-
-// The rotation whose hemisphere the others take: that of the first pose of all.
-fn first_rotation(a: Average, p: Pose) -> Quaternion
-    ensures { result ≡ first_of a p }
-{
-    if a.count == 0 {
-        return p.rotation;
-    }
-    a.first
+    let once = normalize(sum / count);
+    normalize(once)
 }
 
 impl Average {
+    #[tactic(auto, unfolding(crate::specs::Inner::Taking::taken))]
     pub fn new() -> Average
         ensures { result ≡ taken [] }
     {
         Average {
-            first: Quaternion::identity(),
+            first: None,
             translations: Vec3::zeros(),
             rotations: Quaternion {
                 i: 0.0,
@@ -111,25 +71,27 @@ impl Average {
         }
     }
 
-    // One pose more. The count is that of the poses taken, modulo 2^32; where it is 0 the pose is the first.
+    // One pose more; the others take the hemisphere of the first pose's rotation. The count is that of the poses taken, modulo 2^32.
+    #[tactic(auto, unfolding(crate::specs::Inner::Taking::plus_pose, crate::specs::Average::plus_translation))]
     pub fn add(self, p: Pose) -> Average
         ensures { result ≡ plus_pose self p }
     {
-        let first = first_rotation(self, p);
+        let first = self.first.unwrap_or(p.rotation);
         Average {
-            first: first,
-            translations: add_translation(self.translations, p),
+            first: Some(first),
+            translations: self.translations + p.translation,
             rotations: add_rotation(first, self.rotations, p),
-            count: std::num::wrapping_add_u32(self.count, 1),
+            count: self.count.wrapping_add(1),
         }
     }
 
+    #[tactic(auto, unfolding(crate::specs::Average::mean_of))]
     pub fn mean(self) -> Pose
         ensures { result ≡ mean_of self.count self.translations self.rotations }
     {
-        let count = self.count as f64;
+        let count = f64::from(self.count);
         Pose {
-            translation: divide_vector(self.translations, count),
+            translation: self.translations / count,
             rotation: mean_rotation(count, self.rotations),
         }
     }

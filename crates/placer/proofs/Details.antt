@@ -5,7 +5,7 @@ use native.Mathlib.Nat.{mul-le-mul}
 use native.Mathlib.Omega.{arith}
 use mathlib.Core.Path.{◌≡◌}
 use mathlib.Core.Bool.{Bool, not, ◌||◌}
-use mathlib.Core.Option.{some}
+use Rattle.std.specs.Prelude.{Some}
 use mathlib.Core.List.{List, [], ◌∷◌}
 use lib.ListN.{length, get_or}
 use lib.Pow.{pow_mono}
@@ -21,16 +21,16 @@ use Rattle.inputs.specs.Inputs.{size_refusal, cell_count, lowest_other_count, co
 use Rattle.placing.specs.Grid.{Grid, has_place}
 use Rattle.extrinsics.specs.Outcome.{is_not_finite, lowest_not_finite, not_finite, unreached_set, unreached, is_empty_view, lowest_empty_view, empty_view, grid_refusal}
 use Rattle.extrinsics.specs.Direct.{direct_grid, direct_refusal}
-use Rattle.placing.specs.declared.grid.Cell.TheVariants.{Empty}
 use Rattle.averaging.specs.Entry.{max_poses, is_not_finite as isNotFiniteAt, lowest_not_finite as lowestFound, average_refusal}
 use Rattle.inputs.proofs.Answering.{size_refusal-none, refuse_if-none}
 use Rattle.inputs.proofs.InTurn.{ShortDetail, Small, if_first_of, if_refuse_if, if_refuse_at, small_size}
 use Rattle.lists.proofs.Lowest.{lowest_passes}
 use Rattle.lists.proofs.PowerSums.{power_sum-lt}
 use Rattle.extrinsics.proofs.DirectCall.{input_sizes}
+use Rattle.std.specs.Prelude.{None}
 
 -- A number that was found below n is small if n is.
-small_lowest : (test : ℕ → Bool) (n : ℕ) → n ≤ 2 ^ 32 → (i : ℕ) → lowest test n ≡ some i → i < 2 ^ 32
+small_lowest : (test : ℕ → Bool) (n : ℕ) → n ≤ 2 ^ 32 → (i : ℕ) → lowest test n ≡ Some i → i < 2 ^ 32
 small_lowest test n h i e = omega (arith, h, (lowest_passes test n i e).0)
 
 -- ---- lengths
@@ -54,7 +54,7 @@ module _ (g : Grid) (views_fit : g.views ≤ max_views) (cameras_fit : g.cameras
   unfolding not_finite lowest_not_finite
   small_not_finite =
       if_refuse_at ShortDetail (lowest_not_finite g) NotFinite
-      (small_lowest (λ i. is_not_finite (get_or g.cells i Empty)) (g.views * g.cameras) (cells_fit g.views g.cameras views_fit cameras_fit))
+      (small_lowest (λ i. is_not_finite (get_or g.cells i None)) (g.views * g.cameras) (cells_fit g.views g.cameras views_fit cameras_fit))
 
   small_unreached : Small (unreached g)
   unfolding unreached unreached_set

@@ -2,14 +2,14 @@
 -- is read back from the reply (`estimated_read`). So whatever is shown of the direct call holds of the export. Assumes nothing.
 use Prim.Native.Nat.{ℕ}
 use mathlib.Core.Path.{◌≡◌, refl, sym, subst, ap, ◌∙◌}
-use mathlib.Core.Option.{Option, none, some}
+use Rattle.std.specs.Prelude.{Option, None, Some}
 use mathlib.Core.List.{List}
 use lib.ListN.{length}
 use lib.Ieee.{Float}
 use Rattle.refusal.specs.declared.Refusal.{Refusal}
 use Rattle.extrinsics.specs.Outcome.{outcome_of}
 use Rattle.extrinsics.specs.Direct.{Direct, direct_refusal}
-use Rattle.extrinsics.specs.declared.Outcome.{Outcome}
+use Rattle.extrinsics.specs.Outcome.{Outcome}
 use Rattle.placer.specs.Code.{code_of_outcome}
 use Rattle.placer.specs.Exports.{Estimated}
 use Rattle.placer.specs.Reading.{outcome_in, DirectReply}
@@ -20,8 +20,8 @@ use Rattle.placer.proofs.Replies.{code_outcome_of}
 
 small_outcome_of : (o : Option Refusal) → Small o → SmallOutcome (outcome_of o)
 unfolding outcome_of
-small_outcome_of none h = tt
-small_outcome_of (some q) h = h
+small_outcome_of None h = tt
+small_outcome_of (Some q) h = h
 
 module _ (counts marks : List ℕ) (floats : List Float) (reference : ℕ) (first : List Float) (second : List ℕ) (r : ℕ) (first' : List Float)
     (second' : List ℕ) (call : Estimated counts marks floats reference first second r first' second') where

@@ -5,21 +5,19 @@ use native.Mathlib.Omega.{arith}
 use mathlib.Core.Path.{◌≡◌, refl, ap, ap₂, ◌∙◌}
 use mathlib.Core.Logic.{◌↔◌}
 use mathlib.Core.Bool.{Bool, cond}
-use mathlib.Core.Option.{Option, none, some}
+use Rattle.std.specs.Prelude.{Option, None, Some}
 use borrow.Author.Tests.{ne_eqb, lt-ltb, le-ltb}
 use Rattle.refusal.specs.Table.{number_of, detail_of}
 use Rattle.refusal.specs.declared.Refusal.{Refusal}
 use Rattle.refusal.specs.declared.Refusal.TheVariants.{InsufficientData, TooMany, InvalidReference, CountDiffers, WrongLength, BadMark, NotFinite, Unreached, EmptyView, UnknownCommand, Truncated, OutsideRig, TooLong, BrokenFrame, TooManyFrames, NoSize, SizeAgain, HeldAlready, NotHeld}
-use Rattle.extrinsics.specs.declared.Outcome.{Outcome}
-use Rattle.extrinsics.specs.declared.Outcome.TheVariants as Came
-use Rattle.session_commands.specs.declared.Reply.{Reply}
-use Rattle.session_commands.specs.declared.Reply.TheVariants as Replied
-use Rattle.shared_query.specs.declared.Shared.{Shared}
-use Rattle.shared_query.specs.declared.Shared.TheVariants as Asked
-use Rattle.telemetry.specs.declared.Imported.{Imported}
-use Rattle.telemetry.specs.declared.Imported.TheVariants as Packed
+use Rattle.extrinsics.specs.Outcome.{Outcome}
+use Rattle.session_commands.specs.Reply.{Reply}
+use Rattle.shared_query.specs.Query.{Shared}
+use Rattle.telemetry.specs.Frames.{Imported}
 use Rattle.placer.specs.Code.{code_of, code_of_outcome, code_of_refusal, code_of_reply, code_of_shared, code_of_imported}
 use Rattle.placer.specs.Reading.{number_in, detail_in, refusals_with, with_number, refusal_in, outcome_in, reply_in, shared_in, imported_in}
+use Rattle.std.specs.Prelude.{Err, Ok}
+use Rattle.session_commands.specs.declared.Done.TheVariants.{Accepted, End, Solved}
 
 -- ---- refusals
 
@@ -84,12 +82,12 @@ module _ (q : Refusal) (small : detail_of q < 2 ^ 32) where
 -- ---- what a check finds
 
 -- 0 is the reply where nothing is refused, and nowhere else.
-pub code_of_refusal_0 : (o : Option Refusal) → (code_of_refusal o ≡ 0) ↔ (o ≡ none)
+pub code_of_refusal_0 : (o : Option Refusal) → (code_of_refusal o ≡ 0) ↔ (o ≡ None)
 unfolding code_of_refusal
-code_of_refusal_0 none = (λ e. refl, λ e. refl)
-code_of_refusal_0 (some q) = (λ e. absurd (omega (arith, code_of_above q)), λ e. let z : ◌≡◌ {A = ℕ} 0 1 = cc in absurd (omega arith))
+code_of_refusal_0 None = (λ e. refl, λ e. refl)
+code_of_refusal_0 (Some q) = (λ e. absurd (omega (arith, code_of_above q)), λ e. let z : ◌≡◌ {A = ℕ} 0 1 = cc in absurd (omega arith))
 
-pub code_of_refusal_both : (o : Option Refusal) (q : Refusal) → o ≡ some q → detail_of q < 2 ^ 32
+pub code_of_refusal_both : (o : Option Refusal) (q : Refusal) → o ≡ Some q → detail_of q < 2 ^ 32
     → (number_in (code_of_refusal o) ≡ number_of q) × (detail_in (code_of_refusal o) ≡ detail_of q)
 unfolding code_of_refusal
 code_of_refusal_both o q e small = rw e (number_in_code_of q small, detail_in_code_of q small)
@@ -97,35 +95,35 @@ code_of_refusal_both o q e small = rw e (number_in_code_of q small, detail_in_co
 -- ---- outcomes
 
 -- 0 is the reply of a solved rig and of nothing else.
-pub code_of_outcome_0 : (o : Outcome) → (code_of_outcome o ≡ 0) ↔ (o ≡ Came.Solved)
+pub code_of_outcome_0 : (o : Outcome) → (code_of_outcome o ≡ 0) ↔ (o ≡ Ok tt)
 unfolding code_of_outcome
-code_of_outcome_0 (Came.Refused q) = (λ e. absurd (omega (arith, code_of_above q)), λ e. let z : ◌≡◌ {A = ℕ} 0 1 = cc in absurd (omega arith))
-code_of_outcome_0 Came.Solved = (λ e. refl, λ e. refl)
+code_of_outcome_0 (Err q) = (λ e. absurd (omega (arith, code_of_above q)), λ e. let z : ◌≡◌ {A = ℕ} 0 1 = cc in absurd (omega arith))
+code_of_outcome_0 (Ok tt) = (λ e. refl, λ e. refl)
 
 -- The detail of an outcome, 0 where nothing is refused, has no more than 32 bits.
 abbrev pub SmallOutcome : Outcome → Type 0
-SmallOutcome (Came.Refused q) = detail_of q < 2 ^ 32
-SmallOutcome Came.Solved = Unit {0}
+SmallOutcome (Err q) = detail_of q < 2 ^ 32
+SmallOutcome (Ok tt) = Unit {0}
 
 pub outcome_in-code_of_outcome : (o : Outcome) → SmallOutcome o → outcome_in (code_of_outcome o) ≡ o
 unfolding outcome_in code_of_outcome
-outcome_in-code_of_outcome (Came.Refused q) small = rw (ne_eqb (code_of q) 0 (omega (arith, code_of_above q)), refusal_in_code_of q small)
-outcome_in-code_of_outcome Came.Solved small = refl
+outcome_in-code_of_outcome (Err q) small = rw (ne_eqb (code_of q) 0 (omega (arith, code_of_above q)), refusal_in_code_of q small)
+outcome_in-code_of_outcome (Ok tt) small = refl
 
 -- ---- the session's replies
 
 abbrev pub SmallReply : Reply → Type 0
-SmallReply Replied.End = Unit {0}
-SmallReply Replied.Accepted = Unit {0}
-SmallReply Replied.Solved = Unit {0}
-SmallReply (Replied.Refused q) = detail_of q < 2 ^ 32
+SmallReply (Ok End) = Unit {0}
+SmallReply (Ok Accepted) = Unit {0}
+SmallReply (Ok Solved) = Unit {0}
+SmallReply (Err q) = detail_of q < 2 ^ 32
 
 pub reply_in-code_of_reply : (p : Reply) → SmallReply p → reply_in (code_of_reply p) ≡ p
 unfolding reply_in code_of_reply
-reply_in-code_of_reply Replied.End small = refl
-reply_in-code_of_reply Replied.Accepted small = refl
-reply_in-code_of_reply Replied.Solved small = refl
-reply_in-code_of_reply (Replied.Refused q) small =
+reply_in-code_of_reply (Ok End) small = refl
+reply_in-code_of_reply (Ok Accepted) small = refl
+reply_in-code_of_reply (Ok Solved) small = refl
+reply_in-code_of_reply (Err q) small =
     let above = code_of_above q in
     rw (
       ne_eqb (code_of q) 0 (omega (arith, above)),
@@ -134,28 +132,23 @@ reply_in-code_of_reply (Replied.Refused q) small =
       refusal_in_code_of q small,
     )
 
--- ---- the query's answers
+-- ---- counts: the query's answers, and packed frames
 
 abbrev pub SmallShared : Shared → Type 0
-SmallShared (Asked.Refused q) = detail_of q < 2 ^ 32
-SmallShared (Asked.Count n) = n < 2 ^ 32
+SmallShared (Err q) = detail_of q < 2 ^ 32
+SmallShared (Ok n) = n < 2 ^ 32
 
 pub shared_in-code_of_shared : (p : Shared) → SmallShared p → shared_in (code_of_shared p) ≡ p
 unfolding shared_in code_of_shared
-shared_in-code_of_shared (Asked.Refused q) small =
-    ap (λ (b : Bool). cond b (Asked.Count (code_of q)) (Asked.Refused (refusal_in (code_of q)))) (le-ltb (code_of q) (2 ^ 32) (omega (arith, code_of_above q)))
-    ∙ ap Asked.Refused (refusal_in_code_of q small)
-shared_in-code_of_shared (Asked.Count n) small = rw (lt-ltb n (2 ^ 32) small)
-
--- ---- packed frames
+shared_in-code_of_shared (Err q) small =
+    ap (λ (b : Bool). cond b (Ok (code_of q)) (Err (refusal_in (code_of q)))) (le-ltb (code_of q) (2 ^ 32) (omega (arith, code_of_above q)))
+    ∙ ap Err (refusal_in_code_of q small)
+shared_in-code_of_shared (Ok n) small = rw (lt-ltb n (2 ^ 32) small)
 
 abbrev pub SmallImported : Imported → Type 0
-SmallImported (Packed.Refused q) = detail_of q < 2 ^ 32
-SmallImported (Packed.Frames n) = n < 2 ^ 32
+SmallImported = SmallShared
 
 pub imported_in-code_of_imported : (p : Imported) → SmallImported p → imported_in (code_of_imported p) ≡ p
-unfolding imported_in code_of_imported
-imported_in-code_of_imported (Packed.Refused q) small =
-    ap (λ (b : Bool). cond b (Packed.Frames (code_of q)) (Packed.Refused (refusal_in (code_of q)))) (le-ltb (code_of q) (2 ^ 32) (omega (arith, code_of_above q)))
-    ∙ ap Packed.Refused (refusal_in_code_of q small)
-imported_in-code_of_imported (Packed.Frames n) small = rw (lt-ltb n (2 ^ 32) small)
+unfolding imported_in code_of_imported shared_in code_of_shared
+imported_in-code_of_imported (Err q) small = shared_in-code_of_shared (Err q) small
+imported_in-code_of_imported (Ok n) small = shared_in-code_of_shared (Ok n) small

@@ -5,8 +5,7 @@ use Rattle.arithmetic.specs.Pose.{flat}
 use Rattle.arithmetic.specs.declared.pose.Pose.{Pose}
 use Rattle.refusal.specs.declared.Refusal.TheVariants.{WrongLength}
 use Rattle.averaging.specs.Entry.{averaged_of}
-use Rattle.averaging.specs.declared.Averaged.{Averaged}
-use Rattle.averaging.specs.declared.Averaged.TheVariants.{Refused, Mean}
+use Rattle.averaging.specs.Entry.{Averaged}
 use Rattle.placing.specs.Estimate.{transforms, chains}
 use Rattle.extrinsics.specs.Outcome.{answered}
 use Rattle.extrinsics.specs.Direct.{direct_grid, direct_refusal}
@@ -14,11 +13,12 @@ use Rattle.shared_query.specs.Query.{shared_answer}
 use Rattle.telemetry.specs.Frames.{imported_of, import_leaves}
 use Rattle.record_words.specs.Words.{session_in, is_record}
 use Rattle.placer.specs.Code.{code_of, code_of_averaged, code_of_refusal, code_of_shared, code_of_imported}
+use Rattle.std.specs.Prelude.{Err, Ok}
 
 -- What the lent seven floats of a mean are afterwards: a refusal writes nothing.
 unfoldable pub mean_after : Averaged → List Float → List Float
-mean_after (Refused r) old = old
-mean_after (Mean p) old = flat p ++ drop 7 old
+mean_after (Err r) old = old
+mean_after (Ok p) old = flat p ++ drop 7 old
 
 -- The public averaging entry, on lent pose records.
 pub record AveragedInto (poses : List Pose) (mean : List Float) (r : ℕ) (mean' : List Float) : Type 0 where

@@ -6,18 +6,16 @@ use Rattle.refusal.specs.Table.{number_of}
 use Rattle.refusal.specs.declared.Refusal.{Refusal}
 use Rattle.refusal.specs.declared.Refusal.TheVariants.{InsufficientData, TooMany, InvalidReference, CountDiffers, WrongLength, BadMark, NotFinite, Unreached, EmptyView, UnknownCommand, Truncated, OutsideRig, TooLong, BrokenFrame, TooManyFrames, NoSize, SizeAgain, HeldAlready, NotHeld}
 use Rattle.extrinsics.specs.Direct.{Direct}
-use Rattle.extrinsics.specs.declared.Outcome.{Outcome}
-use Rattle.extrinsics.specs.declared.Outcome.TheVariants as Came
+use Rattle.extrinsics.specs.Outcome.{Outcome}
 use Rattle.session_commands.specs.Obeyed.{State}
 use Rattle.session.specs.Call.{call, max_stream}
-use Rattle.session_commands.specs.declared.Reply.{Reply}
-use Rattle.session_commands.specs.declared.Reply.TheVariants as Replied
-use Rattle.shared_query.specs.declared.Shared.{Shared}
-use Rattle.shared_query.specs.declared.Shared.TheVariants as Asked
-use Rattle.telemetry.specs.declared.Imported.{Imported}
-use Rattle.telemetry.specs.declared.Imported.TheVariants as Packed
+use Rattle.session_commands.specs.Reply.{Reply}
+use Rattle.shared_query.specs.Query.{Shared}
+use Rattle.telemetry.specs.Frames.{Imported}
 use Rattle.record_words.specs.Words.{words_of}
 use Rattle.placer.specs.Code.{code_of_outcome, code_of_reply}
+use Rattle.std.specs.Prelude.{Err, Ok}
+use Rattle.session_commands.specs.declared.Done.TheVariants.{Accepted, End, Solved}
 
 abbrev pub number_in : ℕ → ℕ
 number_in r = r / 2 ^ 32
@@ -60,22 +58,22 @@ refusal_in r = with_number (number_in r) (refusals_with (detail_in r))
 -- What the direct call came to, by the reply of `placer_estimate`.
 unfoldable pub outcome_in : ℕ → Outcome
 unfolding with_number
-outcome_in r = cond (eqb r 0) Came.Solved (Came.Refused (refusal_in r))
+outcome_in r = cond (eqb r 0) (Ok tt) (Err (refusal_in r))
 
 -- What the session replied, by the reply of `placer_step`.
 unfoldable pub reply_in : ℕ → Reply
 unfolding with_number
-reply_in r = cond (eqb r 0) Replied.End (cond (eqb r 1) Replied.Accepted (cond (eqb r 2) Replied.Solved (Replied.Refused (refusal_in r))))
+reply_in r = cond (eqb r 0) (Ok End) (cond (eqb r 1) (Ok Accepted) (cond (eqb r 2) (Ok Solved) (Err (refusal_in r))))
 
 -- What the query answered, by the reply of `placer_shared`.
 unfoldable pub shared_in : ℕ → Shared
 unfolding with_number
-shared_in r = cond (ltb r (2 ^ 32)) (Asked.Count r) (Asked.Refused (refusal_in r))
+shared_in r = cond (ltb r (2 ^ 32)) (Ok r) (Err (refusal_in r))
 
 -- What packed frames came to, by the reply of `placer_frames`.
 unfoldable pub imported_in : ℕ → Imported
 unfolding with_number
-imported_in r = cond (ltb r (2 ^ 32)) (Packed.Frames r) (Packed.Refused (refusal_in r))
+imported_in r = cond (ltb r (2 ^ 32)) (Ok r) (Err (refusal_in r))
 
 -- A reply of `placer_estimate` is the direct call's: some outcome of it, and both answers as that call leaves them. The reply is the
 -- outcome's number, and the outcome is read back from it.

@@ -1,12 +1,9 @@
 // What an entry answers as one 64-bit number: number times 2^32 plus detail for a refusal, and below 2^32 for everything else.
 ghost use Rattle.std.specs.Prelude.{◌≡◌};
-ghost use Rattle.placer.specs.Code.{code_of, code_of_outcome, code_of_reply, code_of_shared, code_of_imported};
+ghost use Rattle.placer.specs.Code.{code_of, code_of_reply, code_of_shared, code_of_imported};
 
-use extrinsics::Outcome;
 use refusal::Refusal;
-use session_commands::Reply;
-use shared_query::Shared;
-use telemetry::Imported;
+use session_commands::Done;
 
 // 2^32: details are below it.
 const DETAILS: u64 = 0x1_0000_0000;
@@ -14,45 +11,29 @@ const DETAILS: u64 = 0x1_0000_0000;
 pub fn refusal_code(refusal: Refusal) -> u64
     ensures { result ≡ code_of refusal }
 {
-    let number = refusal.number() as u64;
-    number * DETAILS + refusal.detail() as u64
+    u64::from(refusal.number()) * DETAILS + u64::from(refusal.detail())
 }
 
-pub fn outcome_code(outcome: Outcome) -> u64
-    ensures { result ≡ code_of_outcome outcome }
+// The count of the query, or of frames, or what is refused.
+#[tactic(auto, unfolding(crate::specs::Code::code_of_shared, crate::specs::Code::code_of_imported))]
+pub fn answer_code(answer: Result<u32, Refusal>) -> u64
+    ensures shared { result ≡ code_of_shared answer }
+    ensures imported { result ≡ code_of_imported answer }
 {
-    match outcome {
-        Outcome::Refused(refusal) => refusal_code(refusal),
-        Outcome::Solved => 0,
+    match answer {
+        Ok(count) => u64::from(count),
+        Err(refusal) => refusal_code(refusal),
     }
 }
 
 // 0 at the end of the stream, 1 for a command accepted, 2 for a rig solved.
-pub fn reply_code(reply: Reply) -> u64
+#[tactic(auto, unfolding(crate::specs::Code::code_of_reply, crate::specs::Code::code_of_shared))]
+pub fn reply_code(reply: Result<Done, Refusal>) -> u64
     ensures { result ≡ code_of_reply reply }
 {
-    match reply {
-        Reply::End => 0,
-        Reply::Accepted => 1,
-        Reply::Solved => 2,
-        Reply::Refused(refusal) => refusal_code(refusal),
-    }
-}
-
-pub fn shared_code(shared: Shared) -> u64
-    ensures { result ≡ code_of_shared shared }
-{
-    match shared {
-        Shared::Refused(refusal) => refusal_code(refusal),
-        Shared::Count(count) => count as u64,
-    }
-}
-
-pub fn imported_code(imported: Imported) -> u64
-    ensures { result ≡ code_of_imported imported }
-{
-    match imported {
-        Imported::Refused(refusal) => refusal_code(refusal),
-        Imported::Frames(count) => count as u64,
-    }
+    answer_code(reply.map(|done| match done {
+        Done::End => 0,
+        Done::Accepted => 1,
+        Done::Solved => 2,
+    }))
 }

@@ -4,7 +4,7 @@ use Prim.Native.Nat.{ℕ, ◌+◌, ◌-◌, ◌*◌, ◌≤◌}
 use native.Mathlib.Nat.{mul-suc}
 use native.Mathlib.Numerals.{add-one}
 use native.Mathlib.Omega.{arith}
-use mathlib.Core.Path.{◌≡◌}
+use mathlib.Core.Path.{◌≡◌, ◌∙◌}
 use mathlib.Core.List.{List, ◌++◌, append_assoc, append-nil}
 use borrow.Rule.Slice.PartMut.{mid_of, put_mid}
 use lib.ListN.{length, take, drop, length-append, length-drop, drop_of_length-le}
@@ -43,3 +43,9 @@ module _ {A : Type 0} where
 
     pub length-filled : (o : List A) (n : ℕ) → w * n ≤ length o → length (gather n f ++ drop (w * n) o) ≡ length o
     length-filled o n h = simp (length-append, length-gather f w each n, length-drop) (omega arith)
+
+    -- The next block, written to the front of the part behind those that stand.
+    pub fill_tail : (l o ys : List A) (n : ℕ) → w * n ≤ length l → l ≡ gather n f ++ drop (w * n) o
+        → ys ≡ f n ++ drop w (mid_of (w * n) (length l - w * n) l)
+        → put_mid (w * n) (length l - w * n) l ys ≡ gather (n + 1) f ++ drop (w * (n + 1)) o
+    fill_tail l o ys n h e q = put_tail l ys (f n) (w * n) w h q ∙ fill_next l o n e

@@ -11,8 +11,8 @@ use Rattle.arithmetic.specs.declared.pose.Pose.{Pose}
 use Rattle.mean.proofs.Averaging.{taken-append}
 use Rattle.lists.specs.Lists.{gather}
 use Rattle.placing.specs.Estimate.{link_candidate, target_candidate}
-use Rattle.placing.specs.declared.grid.Cell.{Cell}
-use Rattle.placing.specs.declared.grid.Cell.TheVariants.{Empty, Held}
+use Rattle.placing.specs.Grid.{Cell}
+use Rattle.std.specs.Prelude.{None, Some}
 
 module _ {A : Type 0} where
   pub gather-next : (n : ℕ) (f : ℕ → List A) → gather (n + 1) f ≡ gather n f ++ f n
@@ -34,14 +34,14 @@ module _ {A : Type 0} where
 
 pub length-link_candidate-le : (p c : Cell) → length (link_candidate p c) ≤ 1
 unfolding link_candidate
-length-link_candidate-le Empty c = omega arith
-length-link_candidate-le (Held p) Empty = omega arith
-length-link_candidate-le (Held p) (Held q) = omega arith
+length-link_candidate-le None c = omega arith
+length-link_candidate-le (Some p) None = omega arith
+length-link_candidate-le (Some p) (Some q) = omega arith
 
 pub length-target_candidate-le : (p : Pose) (c : Cell) → length (target_candidate p c) ≤ 1
 unfolding target_candidate
-length-target_candidate-le p Empty = omega arith
-length-target_candidate-le p (Held q) = omega arith
+length-target_candidate-le p None = omega arith
+length-target_candidate-le p (Some q) = omega arith
 
 -- ---- what an `Average` has taken
 

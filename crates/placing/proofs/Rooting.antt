@@ -1,23 +1,25 @@
 -- Trees that come down to the reference: no camera of one has as many links as the rig has cameras (`rooted_links-below`), two that
--- agree on the cameras of the rig have the same answers (`written_agree`), and the layers make one where every camera is placed
--- (`spots_rooted`), so that what is written by it is what the layers say (`written_by_layers`).
+-- agree on the cameras of the rig have the same answers (`written_agree`), each camera of one has a place (`rooted_places`), and the
+-- layers make one where every camera is placed (`spots_rooted`), so that what is written by it is what the layers say (`written_by_layers`).
 -- Assumes nothing.
 use Prim.Native.Nat.{ℕ, zero, suc, ◌+◌, ◌*◌, ◌≤◌, ◌<◌}
 use native.Mathlib.Omega.{arith}
 use mathlib.Core.Path.{◌≡◌, refl, ap, ap₂, ◌∙◌}
 use mathlib.Core.Logic.{◌≢◌}
 use mathlib.Core.List.{List, [], ◌∷◌, ◌++◌}
-use lib.ListN.{drop}
+use lib.ListN.{get_or, drop}
+use Rattle.std.specs.Prelude.{Option, None, Some, IsSome}
 use lib.Dec.{T, leb, leb→le, le→leb}
 use lib.Ieee.{Float}
 use borrow.Author.Tests.{le-leb, lt-leb}
 use Rattle.arithmetic.specs.Pose.{mul_pose, flat}
 use Rattle.limits.specs.Limits.{max_cameras, one_view}
 use Rattle.lists.specs.Finding.{count}
-use Rattle.chains.specs.Inner.Trees.{tree_of, parent_at, links_at}
+use Rattle.chains.specs.Inner.Trees.{tree_of, not_placed_byte, parent_byte, links_byte, place_at, parent_at, links_at}
 use Rattle.placing.specs.Grid.{Grid, shared_views, spots, has_place, parent, link_count}
 use Rattle.placing.specs.Estimate.{averaged_link, pose_after, rig_se3_cam_in, transforms_in, chains_in}
 use Rattle.placing.specs.Inner.Placed.{Rooted, Written}
+use Rattle.chains.specs.declared.Place.{Place}
 use Rattle.chains.specs.declared.Tree.{Tree}
 use Rattle.lists.proofs.Counting.{count-le, count_more, count-some}
 use Rattle.chains.proofs.Theorem.{LayeredSpots}
@@ -53,6 +55,39 @@ module _ (cameras reference : ℕ) (parents linkCounts : ℕ → ℕ) (rooted : 
 
   pub rooted_links-below : (c : ℕ) → c < cameras → linkCounts c < cameras
   rooted_links-below c h = omega (arith, links-count (linkCounts c) c h refl, count-le (λ i. leb (linkCounts i) (linkCounts c)) cameras)
+
+-- ---- places
+
+module _ (tree : Tree) (c : ℕ) (p : Place) (e : get_or tree.places c None ≡ Some p) where
+  pub parent_at-place : parent_at tree c ≡ p.parent
+  unfolding parent_at place_at parent_byte
+  parent_at-place = ap parent_byte e
+
+  pub links_at-place : links_at tree c ≡ p.links
+  unfolding links_at place_at links_byte
+  links_at-place = ap links_byte e
+
+pub links_at-none : (tree : Tree) (c : ℕ) → get_or tree.places c None ≡ None → links_at tree c ≡ not_placed_byte
+unfolding links_at place_at links_byte
+links_at-none tree c e = ap links_byte e
+
+module _ (cameras reference : ℕ) (tree : Tree) (rooted : Rooted cameras reference (parent_at tree) (links_at tree)) where
+  -- Without a place a camera would have more links than a rig has cameras.
+  pub rooted_places : cameras ≤ max_cameras → (c : ℕ) → c < cameras → IsSome (get_or tree.places c None)
+  rooted_places few c h = go (get_or tree.places c None) refl
+    where
+      go : (o : Option Place) → get_or tree.places c None ≡ o → IsSome o
+      go None e =
+          absurd (omega (arith, links_at-none tree c e, rooted_links-below cameras reference (parent_at tree) (links_at tree) rooted c h))
+      go (Some p) e = refl
+
+  pub place_parent_inside : (c : ℕ) → c < cameras → (p : Place) → get_or tree.places c None ≡ Some p → 0 < p.links → p.parent < cameras
+  place_parent_inside c h p e l =
+      omega (
+        arith,
+        parent_at-place tree c p e,
+        linked-parent-inside cameras reference (parent_at tree) (links_at tree) rooted c h (omega (arith, links_at-place tree c p e)),
+      )
 
 -- ---- trees that agree
 

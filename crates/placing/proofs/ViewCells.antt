@@ -1,23 +1,20 @@
--- The cells of a rig's grid: the cell of view v and camera c, that it is held exactly when the camera's mask has view v, and where
--- its pose stands among the floats.
+-- The cells of a rig's grid: the cell of view v and camera c, and that it is held exactly when the camera's mask has view v.
 -- Assumes nothing.
-use Prim.Native.Nat.{ℕ, ◌+◌, ◌*◌, ◌/◌, ◌%◌, ◌≤◌, ◌<◌}
-use native.Mathlib.Nat.{suc-mul, mul-le-mul_right, mul-le-mul, mul-add-div_right, mul-add-mod_self_right, div-eq_of_lt, mod-eq_of_lt}
+use Prim.Native.Nat.{ℕ, ◌+◌, ◌*◌, ◌/◌, ◌%◌, ◌<◌}
+use native.Mathlib.Nat.{suc-mul, mul-le-mul_right, mul-add-div_right, mul-add-mod_self_right, div-eq_of_lt, mod-eq_of_lt}
 use native.Mathlib.Omega.{arith}
 use mathlib.Core.Path.{◌≡◌, refl, ap, ap₂, ◌∙◌}
 use mathlib.Core.Bool.{Bool, true, false, cond}
 use mathlib.Core.List.{List}
-use lib.ListN.{length, get_or}
+use lib.ListN.{get_or}
 use lib.Ieee.{Float}
 use Rattle.arithmetic.specs.declared.pose.Pose.{Pose}
-use Rattle.limits.specs.Limits.{max_views, max_cameras}
 use Rattle.lists.specs.Masks.{in_mask}
 use Rattle.placing.specs.Grid.{is_held, cell_of, holds}
 use Rattle.placing.specs.Rig.{masked_cell, rig_cell, rig_grid}
-use Rattle.placing.specs.Inner.Fitting.{Fitting}
-use Rattle.placing.specs.declared.grid.Cell.TheVariants.{Empty, Held}
 use Rattle.placing.specs.declared.grid.Rig.{Rig}
 use Rattle.lists.proofs.Tabulated.{get_d_tabulate}
+use Rattle.std.specs.Prelude.{None, Some}
 
 -- ---- rows of n: number v * n + c is the c-th of row v
 
@@ -32,7 +29,7 @@ row_remainder v n c l = mul-add-mod_self_right v n c ∙ mod-eq_of_lt l
 
 -- ---- cells
 
-pub is_held_cond : (b : Bool) (p : Pose) → is_held (cond b (Held p) Empty) ≡ b
+pub is_held_cond : (b : Bool) (p : Pose) → is_held (cond b (Some p) None) ≡ b
 unfolding is_held
 is_held_cond true p = refl
 is_held_cond false p = refl
@@ -41,27 +38,10 @@ module _ (r : Rig) (floats : List Float) (v c : ℕ) (view_inside : v < r.views)
   pub cell_of_rig_cell : cell_of (rig_grid r floats) v c ≡ rig_cell r floats v c
   unfolding rig_grid
   cell_of_rig_cell =
-      get_d_tabulate (r.views * r.cameras) (λ i. rig_cell r floats (i / r.cameras) (i % r.cameras)) Empty (v * r.cameras + c)
+      get_d_tabulate (r.views * r.cameras) (λ i. rig_cell r floats (i / r.cameras) (i % r.cameras)) None (v * r.cameras + c)
       (row_inside v r.views r.cameras c view_inside camera_inside)
       ∙ ap₂ (rig_cell r floats) (row-quotient v r.cameras c camera_inside) (row_remainder v r.cameras c camera_inside)
 
   pub holds-in_mask : holds (rig_grid r floats) v c ≡ in_mask (get_or r.masks c 0) v
   unfolding rig_cell masked_cell
   holds-in_mask = ap is_held cell_of_rig_cell ∙ is_held_cond (in_mask (get_or r.masks c 0) v) _
-
-  module _ (fit : Fitting r floats) where
-    pub pose-inside : 7 * (v * r.stride + c) + 7 ≤ length floats
-    pose-inside =
-        omega (arith, row_inside v r.views r.stride c view_inside (omega (arith, fit.stride_covers)), fit.floats_fit)
-
-    pub pose-place-lt : v * r.stride + c < max_views * max_cameras
-    pose-place-lt =
-        omega (
-          arith,
-          row_inside v r.views r.stride c view_inside (omega (arith, fit.stride_covers)),
-          mul-le-mul fit.views_fit fit.stride_fits,
-        )
-
-    pub cell_place-lt : v * r.cameras + c < max_views * max_cameras
-    cell_place-lt =
-        omega (arith, row_inside v r.views r.cameras c view_inside camera_inside, mul-le-mul fit.views_fit fit.cameras_fit)

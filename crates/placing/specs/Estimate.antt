@@ -2,25 +2,23 @@
 -- They are stated over any tree of cameras; the layers make one. Rests on the averages and products of `mean` and `arithmetic`, and
 -- the spots of `Grid`.
 use Prim.Native.Nat.{ℕ, zero, suc}
-use Rattle.std.specs.Prelude.{List, [], ◌∷◌, ◌++◌, Float}
+use Rattle.std.specs.Prelude.{List, [], ◌∷◌, ◌++◌, Float, None, Some}
 use Rattle.arithmetic.specs.Pose.{mul_pose, inverse_pose, identity_pose, flat}
 use Rattle.mean.specs.Average.{average_isometries}
 use Rattle.arithmetic.specs.declared.pose.Pose.{Pose}
-use Rattle.placing.specs.Grid.{Grid, cell_of, parent, link_count}
-use Rattle.placing.specs.declared.grid.Cell.{Cell}
-use Rattle.placing.specs.declared.grid.Cell.TheVariants.{Empty, Held}
+use Rattle.placing.specs.Grid.{Grid, Cell, cell_of, parent, link_count}
 use Rattle.lists.specs.Lists.{gather}
 
 -- "parent's target pose × inverse of the camera's target pose": T_Cp_C = T_Cp_T × (T_C_T)⁻¹, where the view holds both.
 unfoldable pub link_candidate : Cell → Cell → List Pose
-link_candidate Empty c = []
-link_candidate (Held p) Empty = []
-link_candidate (Held p) (Held q) = mul_pose p (inverse_pose q) ∷ []
+link_candidate None c = []
+link_candidate (Some p) None = []
+link_candidate (Some p) (Some q) = mul_pose p (inverse_pose q) ∷ []
 
 -- T_R_T = T_R_C × T_C_T, where the view holds the camera's pose.
 unfoldable pub target_candidate : Pose → Cell → List Pose
-target_candidate rig Empty = []
-target_candidate rig (Held p) = mul_pose rig p ∷ []
+target_candidate rig None = []
+target_candidate rig (Some p) = mul_pose rig p ∷ []
 
 module _ (g : Grid) where
   -- "For each shared view, ascending"

@@ -1,11 +1,14 @@
 -- The grid of cells that an estimate works on, and what its marks say: document 01, "A cell is either empty or holds one pose of seven numbers" and "Chains".
 -- Rests on the shared counts of `Shared` and the layers of `Layers`.
-use Rattle.std.specs.Prelude.{ℕ, ◌+◌, ◌*◌, Bool, true, false, List, get_or}
+use Rattle.std.specs.Prelude.{ℕ, ◌+◌, ◌*◌, Bool, true, false, List, get_or, Option, None, Some}
 use Rattle.limits.specs.Limits.{one_view}
 use Rattle.chains.specs.Shared.{shared}
 use Rattle.chains.specs.Layers.{Spot, layers, spot_at, is_placed, parent_of, links_of}
-use Rattle.placing.specs.declared.grid.Cell.{Cell}
-use Rattle.placing.specs.declared.grid.Cell.TheVariants.{Empty, Held}
+use Rattle.arithmetic.specs.declared.pose.Pose.{Pose}
+
+-- What a view holds of a camera: nothing, or the target's pose T_C_T.
+abbrev pub Cell : Type 0
+Cell = Option Pose
 
 -- View after view: a cell's index is view × cameras + camera.
 pub record Grid : Type 0 where
@@ -15,12 +18,12 @@ pub record Grid : Type 0 where
   pub cells : List Cell
 
 unfoldable pub is_held : Cell → Bool
-is_held Empty = false
-is_held (Held p) = true
+is_held None = false
+is_held (Some p) = true
 
 module _ (g : Grid) where
   abbrev pub cell_of : ℕ → ℕ → Cell
-  cell_of v c = get_or g.cells (v * g.cameras + c) Empty
+  cell_of v c = get_or g.cells (v * g.cameras + c) None
 
   -- "A view holds a pose of a camera if that cell's mark is 1"
   abbrev pub holds : ℕ → ℕ → Bool

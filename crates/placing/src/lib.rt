@@ -5,26 +5,29 @@ ghost use Rattle.std.specs.Prelude.{◌≤◌, length};
 ghost use Rattle.limits.specs.Limits.{first_needs, second_needs};
 ghost use Rattle.chains.specs.Inner.Trees.{parent_at, links_at};
 ghost use Rattle.placing.specs.Rig.{rig_grid};
-ghost use Rattle.placing.specs.Inner.Fitting.{Fitting};
 ghost use Rattle.placing.specs.Inner.Placed.{Rooted, Written};
+ghost use Rattle.placing.specs.Inner.Lent.{SameAnswers};
 
-mod answer;
+pub mod answer;
 pub mod grid;
 mod poses;
 
-use crate::grid::Rig;
+use crate::answer::{LentAnswers, write_cameras, write_chains, write_targets};
+use crate::grid::Observations;
 use chains::Tree;
 use limits::POSE_FLOATS;
 
 // The transforms of a rig whose cameras hang in this tree and whose views all hold a pose, and its chains.
-pub fn write_solved(rig: Rig, floats: &[f64], tree: Tree, transforms: &mut [f64], chains: &mut [u8])
-    requires { Fitting rig floats.now × Rooted rig.cameras rig.reference (parent_at tree) (links_at tree) × (first_needs rig.cameras rig.views ≤ length transforms.old) × (second_needs rig.cameras ≤ length chains.old) }
-    ensures { Written (rig_grid rig floats.now) (parent_at tree) (links_at tree) transforms.old chains.old transforms.new chains.new }
+pub fn write_solved(seen: &Observations<'_>, tree: &Tree, answers: &mut LentAnswers<'_>)
+    requires rooted { Rooted seen.now.rig.cameras seen.now.rig.reference (parent_at tree.now) (links_at tree.now) }
+    requires has_room { (first_needs seen.now.rig.cameras seen.now.rig.views ≤ length answers.old.transforms.now) × (second_needs seen.now.rig.cameras ≤ length answers.old.chains.now) }
+    ensures written { Written (rig_grid seen.now.rig seen.now.floats.now) (parent_at tree.now) (links_at tree.now) answers.old.transforms.now answers.old.chains.now answers.new.transforms.now answers.new.chains.now }
+    ensures same { SameAnswers answers.old answers.new }
 {
-    let rig_se3_cam = poses::place_cameras(rig, floats, tree);
-    let cameras = rig.cameras;
-    answer::write_cameras(rig_se3_cam, cameras, transforms);
+    let cameras = seen.rig.cameras;
+    let rig_se3_cam = poses::place_cameras(seen, tree);
+    write_cameras(&rig_se3_cam, cameras, answers.transforms);
     let at = POSE_FLOATS * cameras;
-    answer::write_targets(rig, floats, rig_se3_cam, &mut transforms[at..]);
-    answer::write_chains(tree, cameras, chains);
+    write_targets(seen, &rig_se3_cam, &mut answers.transforms[at..]);
+    write_chains(tree, cameras, answers.chains);
 }

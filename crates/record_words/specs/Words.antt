@@ -1,6 +1,6 @@
 -- A session record as words, for C: a mask for each camera, the views, the cameras and the reference, and behind them the 256 entries, row by row, words 19 to
 -- 274. Rests on the record of `session_record`.
-use Rattle.std.specs.Prelude.{ℕ, ◌+◌, Bool, ◌&&◌, List, ◌∷◌, ◌++◌, length, get_or, take, drop, eqb, ltb}
+use Rattle.std.specs.Prelude.{ℕ, ◌+◌, Bool, ◌&&◌, cond, Option, None, Some, List, ◌∷◌, ◌++◌, length, get_or, take, drop, eqb, ltb}
 use Rattle.limits.specs.Limits.{max_cameras}
 use Rattle.lists.specs.Finding.{all_below}
 use Rattle.shared_counts.specs.Summary.{entry_count}
@@ -52,3 +52,7 @@ is_record words =
     && ltb (get_or words cameras_word 0) 256
     && ltb (get_or words reference_word 0) 256
     && all_below (is_byte_entry words) entry_count)
+
+-- The record that words are, where they are one.
+unfoldable pub record_in : List ℕ → Option Session
+record_in words = cond (is_record words) (Some (session_in words)) None

@@ -1,6 +1,6 @@
--- The papers' table of refusals, document 01's and what document 02 adds: the number of each and the detail that it names, 0 where it names none; and how checks follow one another. Assumes nothing.
-use Rattle.std.specs.Prelude.{ℕ, Bool, true, false, List, [], ◌∷◌}
-use Rattle.std.proofs.Math.Option.{Option, none, some}
+-- The papers' table of refusals, document 01's and what document 02 adds: the number of each, the detail that it names, 0 where it names none, and the text that prints both; and how checks follow one another. Assumes nothing.
+use Rattle.std.specs.Prelude.{ℕ, Bool, true, false, List, [], ◌∷◌, ◌++◌, codes, Option, None, Some}
+use Rattle.std.specs.Fmt.{decimal}
 use Rattle.refusal.specs.declared.Refusal.{Refusal}
 use Rattle.refusal.specs.declared.Refusal.TheVariants.{InsufficientData, TooMany, InvalidReference, CountDiffers, WrongLength, BadMark, NotFinite, Unreached, EmptyView, UnknownCommand, Truncated, OutsideRig, TooLong, BrokenFrame, TooManyFrames, NoSize, SizeAgain, HeldAlready, NotHeld}
 
@@ -46,22 +46,26 @@ detail_of SizeAgain = 0
 detail_of (HeldAlready cell) = cell
 detail_of (NotHeld cell) = cell
 
+-- "A refusal prints `no`, number, detail, in decimal."
+abbrev pub text_of : Refusal → List ℕ
+text_of r = codes "no " ++ (decimal (number_of r) ++ (codes " " ++ decimal (detail_of r)))
+
 -- ---- checks: each finds a refusal or nothing, and the first that finds one decides
 
 unfoldable pub refuse_if : Bool → Refusal → Option Refusal
-refuse_if true r = some r
-refuse_if false r = none
+refuse_if true r = Some r
+refuse_if false r = None
 
 -- A refusal that names what was found.
 unfoldable pub refuse_at : Option ℕ → (ℕ → Refusal) → Option Refusal
-refuse_at none refusal = none
-refuse_at (some n) refusal = some (refusal n)
+refuse_at None refusal = None
+refuse_at (Some n) refusal = Some (refusal n)
 
 unfoldable pub or_else : Option Refusal → Option Refusal → Option Refusal
-or_else (some r) later = some r
-or_else none later = later
+or_else (Some r) later = Some r
+or_else None later = later
 
 unfoldable pub first_of : List (Option Refusal) → Option Refusal
 unfolding or_else
-first_of [] = none
+first_of [] = None
 first_of (check ∷ later) = or_else check (first_of later)

@@ -1,10 +1,13 @@
 // What every entry refuses with: one case for each number of the papers' table, and what each names.
 #![tactic(auto)]
 
-ghost use Rattle.std.specs.Prelude.{◌≡◌};
-ghost use Rattle.refusal.specs.Table.{number_of, detail_of};
+ghost use Rattle.std.specs.Prelude.{◌≡◌, Some};
+ghost use Rattle.refusal.specs.Table.{number_of, detail_of, text_of};
 
-#[derive(Clone, Copy)]
+use std::error::Error;
+use std::fmt;
+
+#[derive(Clone, Copy, Debug, PartialEq, Eq, Hash)]
 pub enum Refusal {
     // No views, no cameras in view 0, or an empty list of poses.
     InsufficientData,
@@ -88,15 +91,17 @@ impl Refusal {
             Refusal::OutsideRig(cell) => cell,
             Refusal::HeldAlready(cell) => cell,
             Refusal::NotHeld(cell) => cell,
-            Refusal::InsufficientData => 0,
-            Refusal::TooMany => 0,
-            Refusal::InvalidReference => 0,
-            Refusal::WrongLength => 0,
-            Refusal::TooLong => 0,
-            Refusal::BrokenFrame => 0,
-            Refusal::TooManyFrames => 0,
-            Refusal::NoSize => 0,
-            Refusal::SizeAgain => 0,
+            _ => 0,
         }
     }
 }
+
+impl fmt::Display for Refusal {
+    ghost output = { λ refusal. Some (text_of refusal) };
+
+    fn fmt<W: fmt::Write>(&self, f: &mut fmt::Formatter<W>) -> fmt::Result {
+        write!(f, "no {} {}", self.number(), self.detail())
+    }
+}
+
+impl Error for Refusal {}

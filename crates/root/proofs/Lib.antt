@@ -1,7 +1,5 @@
 -- Laws and theorems of the root that belong to no one function, a file a topic.
 mod Squares
-mod Words
-mod Loop
 mod Scale
 pub mod Bits
 pub mod Ends

@@ -20,12 +20,6 @@ pub record Scaled (m b n c : ℕ) : Type 0 where
   pub c_le : c ≤ b
   pub n_lt : n < 2 ^ 54
 
-pub unscaled : (m b : ℕ) → 0 < m → m < 2 ^ 54 → Scaled m b m b
-unscaled m b p l = record { same = refl; grown = subst (λ (x : ℕ). 4 ^ x ≤ m) none p; turns = omega arith; c_le = omega arith; n_lt = l }
-  where
-    none : 0 ≡ b - b
-    none = omega arith
-
 few_turns : (t n : ℕ) → 4 ^ t ≤ n → n < 2 ^ 52 → t < 26
 few_turns t n g l = lt_of_not-le (λ (h : 26 ≤ t). not-le_of_lt l (le_trans (pow-le-pow_right {n = 4} (lit< tt) h) g))
 

@@ -2,7 +2,7 @@
 -- by the midpoint's square gives (`Rounded-nearest`). Assumes nothing.
 use mathlib.Core.Path.{◌≡◌, sym, ap, ◌∙◌, subst}
 use mathlib.Core.Bool.{Bool, true, false, not, cond}
-use Prim.Native.Nat.{ℕ, zero, suc, ◌+◌, ◌-◌, ◌*◌, ◌/◌, ◌^◌, ◌≤◌, ◌<◌, compare, Ordering}
+use Prim.Native.Nat.{ℕ, zero, suc, ◌+◌, ◌*◌, ◌/◌, ◌^◌, ◌≤◌, ◌<◌, compare, Ordering}
 use native.Mathlib.Nat.{le_of_suc-le-suc, le_antisymm, lt_of_not-le, zero-lt-suc, mul-one, mul-add, add-mul, mul_assoc, mul_left_comm, mul-mul-mul_comm, mul-le-mul, mul-le-mul_left, mul-le-mul_right, mul-pos, le_of_mul-le-mul_right, lt_of_mul-lt-mul_right, eq_of_mul-eq-mul_right, pow-suc, div-lt_iff_lt-mul}
 use native.Mathlib.Numerals.{add-one}
 use native.Mathlib.Omega.{arith}
@@ -15,12 +15,6 @@ use Rattle.root.specs.Inner.Steps.{Rounded}
 
 pub sq-suc : (a : ℕ) → sq (a + 1) ≡ sq a + 2 * a + 1
 sq-suc a = simp (mul-add, add-mul) (omega arith)
-
-pub sq_pred : (a : ℕ) → 0 < a → sq a ≡ sq (a - 1) + 2 * (a - 1) + 1
-sq_pred a p = ap sq (back a p) ∙ sq-suc (a - 1)
-  where
-    back : (a : ℕ) → 0 < a → a ≡ a - 1 + 1
-    back a p = omega arith
 
 pub sq_twice : (a : ℕ) → sq (2 * a) ≡ 4 * sq a
 sq_twice a = simp (mul_assoc, mul_left_comm) (omega arith)

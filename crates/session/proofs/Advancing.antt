@@ -2,7 +2,7 @@
 use Prim.Native.Nat.{ℕ, ◌+◌, ◌<◌}
 use native.Mathlib.Omega.{arith}
 use mathlib.Core.Path.{◌≡◌, refl}
-use mathlib.Core.Option.{Option, none, some}
+use Rattle.std.specs.Prelude.{Option, None, Some}
 use mathlib.Core.List.{List}
 use lib.ListN.{length}
 use Rattle.refusal.specs.declared.Refusal.{Refusal}
@@ -19,8 +19,8 @@ obeyed-next : (t : State) (command : Command) (next : ℕ) → (obeyed t command
 obeyed-next t command next = go (command_refusal (held_of t.session) t.buffer command) refl
   where
     go : (o : Option Refusal) → command_refusal (held_of t.session) t.buffer command ≡ o → (obeyed t command next).next ≡ next
-    go (some r) e = rw (obeyed-refused t command next r e) refl
-    go none e = rw (obeyed-accepted t command next e) refl
+    go (Some r) e = rw (obeyed-refused t command next r e) refl
+    go None e = rw (obeyed-accepted t command next e) refl
 
 module _ (t : State) (stream : List ℕ) (at : ℕ) (h : at < length stream) where
   read_advances : (p : Parsed) → parse stream at ≡ p → at < (read t stream at p).next
@@ -33,5 +33,5 @@ module _ (t : State) (stream : List ℕ) (at : ℕ) (h : at < length stream) whe
   call_advances = go (call_refusal t stream at) refl
     where
       go : (o : Option Refusal) → call_refusal t stream at ≡ o → at < (call t stream at).next
-      go (some r) e = rw (call-refused t stream at r e) h
-      go none e = rw (call-read t stream at e (λ s. omega arith)) (read_advances (parse stream at) refl)
+      go (Some r) e = rw (call-refused t stream at r e) h
+      go None e = rw (call-read t stream at e (λ s. omega arith)) (read_advances (parse stream at) refl)

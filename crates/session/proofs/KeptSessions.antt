@@ -3,7 +3,7 @@
 use Prim.Native.Nat.{ℕ, ◌+◌}
 use native.Mathlib.Decide.{ℕ_discrete}
 use mathlib.Core.Path.{◌≡◌, refl}
-use mathlib.Core.Option.{Option, none, some}
+use Rattle.std.specs.Prelude.{Option, None, Some, Ok}
 use mathlib.Core.List.{List}
 use lib.ListN.{length}
 use Rattle.refusal.specs.declared.Refusal.{Refusal}
@@ -12,15 +12,15 @@ use Rattle.session_record.specs.Session.{held_of}
 use Rattle.session_commands.specs.Commands.{command_refusal, session_after}
 use Rattle.session_commands.specs.Obeyed.{State, Result, reply_to, state_after, obeyed}
 use Rattle.session.specs.Call.{call_refusal, read, call}
-use Rattle.session_commands.specs.declared.Reply.TheVariants.{Accepted}
 use Rattle.session_commands.proofs.Obeying.{obeyed-refused, obeyed-accepted}
 use Rattle.session.proofs.Calling.{call-refused, call_end, call-read}
+use Rattle.session_commands.specs.declared.Done.TheVariants.{Accepted}
 
 module _ (t : State) where
   abbrev KeptUnlessAccepted : Result → Type 0
-  KeptUnlessAccepted r = (r.reply ≡ Accepted → ⊥) → r.after.session ≡ t.session
+  KeptUnlessAccepted r = (r.reply ≡ Ok Accepted → ⊥) → r.after.session ≡ t.session
 
-  kept_by : (command : Command) → (reply_to command ≡ Accepted → ⊥) → (state_after t command).session ≡ t.session
+  kept_by : (command : Command) → (reply_to command ≡ Ok Accepted → ⊥) → (state_after t command).session ≡ t.session
   unfolding reply_to state_after session_after
   kept_by (edit change) h = absurd (h refl)
   kept_by solve h = refl
@@ -29,8 +29,8 @@ module _ (t : State) where
   obeyed_keeps command next = go (command_refusal (held_of t.session) t.buffer command) refl
     where
       go : (o : Option Refusal) → command_refusal (held_of t.session) t.buffer command ≡ o → KeptUnlessAccepted (obeyed t command next)
-      go (some r) e = rw (obeyed-refused t command next r e) (λ h. refl)
-      go none e = rw (obeyed-accepted t command next e) (kept_by command)
+      go (Some r) e = rw (obeyed-refused t command next r e) (λ h. refl)
+      go None e = rw (obeyed-accepted t command next e) (kept_by command)
 
   read_keeps : (stream : List ℕ) (at : ℕ) (p : Parsed) → KeptUnlessAccepted (read t stream at p)
   unfolding read
@@ -38,10 +38,10 @@ module _ (t : State) where
   read_keeps stream at broken = λ h. refl
   read_keeps stream at (unknown byte) = λ h. refl
 
-pub call_keeps_session : (t : State) (stream : List ℕ) (at : ℕ) → ((call t stream at).reply ≡ Accepted → ⊥) → (call t stream at).after.session ≡ t.session
+pub call_keeps_session : (t : State) (stream : List ℕ) (at : ℕ) → ((call t stream at).reply ≡ Ok Accepted → ⊥) → (call t stream at).after.session ≡ t.session
 call_keeps_session t stream at = go (call_refusal t stream at) refl (ℕ_discrete at (length stream))
   where
     go : (o : Option Refusal) → call_refusal t stream at ≡ o → Dec (at ≡ length stream) → KeptUnlessAccepted t (call t stream at)
-    go (some r) e d = rw (call-refused t stream at r e) (λ h. refl)
-    go none e (yes h) = rw (call_end t stream at e h) (λ h. refl)
-    go none e (no h) = rw (call-read t stream at e h) (read_keeps t stream at (parse stream at))
+    go (Some r) e d = rw (call-refused t stream at r e) (λ h. refl)
+    go None e (yes h) = rw (call_end t stream at e h) (λ h. refl)
+    go None e (no h) = rw (call-read t stream at e h) (read_keeps t stream at (parse stream at))

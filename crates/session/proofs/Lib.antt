@@ -1,7 +1,6 @@
 -- Laws of `session` that belong to no one function, a file a topic.
 pub mod Calling
 pub mod PassedCalls
-pub mod ReadCommands
 pub mod Advancing
 pub mod SolvedCalls
 pub mod KeptSessions

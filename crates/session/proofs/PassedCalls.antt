@@ -3,7 +3,7 @@
 use Prim.Native.Nat.{ℕ, ◌≤◌}
 use mathlib.Core.Path.{◌≡◌}
 use mathlib.Core.Bool.{true, not, ◌||◌}
-use mathlib.Core.Option.{none}
+use Rattle.std.specs.Prelude.{None}
 use mathlib.Core.List.{List}
 use lib.ListN.{length}
 use lib.Dec.{eqb, ltb}
@@ -24,7 +24,7 @@ pub record Ready (t : State) (stream : List ℕ) (at : ℕ) : Type 0 where
   pub record_possible : possible t.session ≡ true
   pub at_inside : at ≤ length stream
 
-pub call_passed : (t : State) (stream : List ℕ) (at : ℕ) → call_refusal t stream at ≡ none → Ready t stream at
+pub call_passed : (t : State) (stream : List ℕ) (at : ℕ) → call_refusal t stream at ≡ None → Ready t stream at
 unfolding call_refusal first_of
 call_passed t stream at e =
     let buffer = not (eqb (length t.buffer) buffer_length) in
@@ -33,7 +33,7 @@ call_passed t stream at e =
     let bad = not (possible t.session) in
     let long = test_passed (ltb max_stream (length stream)) TooLong _ e in
     let lengths = test_passed (buffer || first || second || bad) WrongLength _ long.1 in
-    let past = test_passed (ltb (length stream) at) (Truncated (length stream)) none lengths.1 in
+    let past = test_passed (ltb (length stream) at) (Truncated (length stream)) None lengths.1 in
     let three = or-false (buffer || first || second) bad lengths.0 in
     let two = or-false (buffer || first) second three.0 in
     let one = or-false buffer first two.0 in

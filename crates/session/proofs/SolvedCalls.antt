@@ -4,7 +4,7 @@ use Prim.Native.Nat.{ℕ, ◌+◌, ◌≤◌}
 use native.Mathlib.Decide.{ℕ_discrete}
 use native.Mathlib.Omega.{arith}
 use mathlib.Core.Path.{◌≡◌, refl, sym, subst, ◌∙◌}
-use mathlib.Core.Option.{Option, none, some, none-ne-some}
+use Rattle.std.specs.Prelude.{Option, None, Some, Err, Ok}
 use mathlib.Core.List.{List}
 use lib.ListN.{length, length-append, length-drop}
 use Rattle.refusal.specs.declared.Refusal.{Refusal}
@@ -17,13 +17,13 @@ use Rattle.session_record.specs.Session.{held_of, session_grid}
 use Rattle.session_commands.specs.Commands.{command_refusal, session_after}
 use Rattle.session_commands.specs.Obeyed.{first_length, second_length, State, Result, reply_to, first_after, second_after, state_after, obeyed}
 use Rattle.session.specs.Call.{call_refusal, read, call}
-use Rattle.session_commands.specs.declared.Reply.{Reply}
-use Rattle.session_commands.specs.declared.Reply.TheVariants.{End, Accepted, Solved, Refused}
+use Rattle.session_commands.specs.Reply.{Reply}
 use Rattle.session_commands.proofs.Obeying.{obeyed-refused, obeyed-accepted}
 use Rattle.session.proofs.Calling.{call-refused, call_end, call-read}
 use Rattle.session.proofs.PassedCalls.{Ready, call_passed}
 use Rattle.session_record.proofs.PossibleRecords.{possible-within, possible-held}
 use Rattle.session_commands.proofs.SolveCommands.{solve_without_size}
+use Rattle.session_commands.specs.declared.Done.TheVariants.{Accepted, End, Solved}
 
 pub record HoldsRig (t : State) : Type 0 where
   pub views_fit : t.session.views ≤ max_views
@@ -32,25 +32,25 @@ pub record HoldsRig (t : State) : Type 0 where
   pub second_fits : second_length ≤ length t.second
 
 -- An answer written over the front of a list makes it no shorter.
-answered_covers {ℓ} : {A : Type ℓ} (n : ℕ) (new old : List A) → n ≤ length old → n ≤ length (answered none new old)
+answered_covers {ℓ} : {A : Type ℓ} (n : ℕ) (new old : List A) → n ≤ length old → n ≤ length (answered None new old)
 unfolding answered
 answered_covers n new old h = simp (length-append, length-drop) (omega arith)
 
 -- Of a reply Solved, that fact; of any other, nothing.
 abbrev IfSolved : Reply → Type 0 → Type 0
-IfSolved End fact = Unit {0}
-IfSolved Accepted fact = Unit {0}
-IfSolved Solved fact = fact
-IfSolved (Refused r) fact = Unit {0}
+IfSolved (Ok End) fact = Unit {0}
+IfSolved (Ok Accepted) fact = Unit {0}
+IfSolved (Ok Solved) fact = fact
+IfSolved (Err r) fact = Unit {0}
 
 abbrev HeldIfSolved : Result → Type 0
 HeldIfSolved r = IfSolved r.reply (HoldsRig r.after)
 
 module _ (t : State) (stream : List ℕ) (at : ℕ) (ready : Ready t stream at) where
-  some_views : command_refusal (held_of t.session) t.buffer solve ≡ none → t.session.views ≡ 0 → ⊥
-  some_views e h = none-ne-some NoSize (sym e ∙ solve_without_size (held_of t.session) t.buffer h)
+  some_views : command_refusal (held_of t.session) t.buffer solve ≡ None → t.session.views ≡ 0 → ⊥
+  some_views e h = let clash : ◌≡◌ {A = Option Refusal} None (Some NoSize) = sym e ∙ solve_without_size (held_of t.session) t.buffer h in cc
 
-  accepted-held : (command : Command) → command_refusal (held_of t.session) t.buffer command ≡ none
+  accepted-held : (command : Command) → command_refusal (held_of t.session) t.buffer command ≡ None
       → IfSolved (reply_to command) (HoldsRig (state_after t command))
   unfolding reply_to state_after session_after first_after second_after
   accepted-held (edit change) e = tt
@@ -67,8 +67,8 @@ module _ (t : State) (stream : List ℕ) (at : ℕ) (ready : Ready t stream at) 
   obeyed-held command next = go (command_refusal (held_of t.session) t.buffer command) refl
     where
       go : (o : Option Refusal) → command_refusal (held_of t.session) t.buffer command ≡ o → HeldIfSolved (obeyed t command next)
-      go (some r) e = rw (obeyed-refused t command next r e) tt
-      go none e = rw (obeyed-accepted t command next e) (accepted-held command e)
+      go (Some r) e = rw (obeyed-refused t command next r e) tt
+      go None e = rw (obeyed-accepted t command next e) (accepted-held command e)
 
   read_held : (p : Parsed) → HeldIfSolved (read t stream at p)
   unfolding read
@@ -80,9 +80,9 @@ call-held : (t : State) (stream : List ℕ) (at : ℕ) → HeldIfSolved (call t 
 call-held t stream at = go (call_refusal t stream at) refl (ℕ_discrete at (length stream))
   where
     go : (o : Option Refusal) → call_refusal t stream at ≡ o → Dec (at ≡ length stream) → HeldIfSolved (call t stream at)
-    go (some r) e d = rw (call-refused t stream at r e) tt
-    go none e (yes h) = rw (call_end t stream at e h) tt
-    go none e (no h) = rw (call-read t stream at e h) (read_held t stream at (call_passed t stream at e) (parse stream at))
+    go (Some r) e d = rw (call-refused t stream at r e) tt
+    go None e (yes h) = rw (call_end t stream at e h) tt
+    go None e (no h) = rw (call-read t stream at e h) (read_held t stream at (call_passed t stream at e) (parse stream at))
 
-pub call_solved : (t : State) (stream : List ℕ) (at : ℕ) → (call t stream at).reply ≡ Solved → HoldsRig (call t stream at).after
+pub call_solved : (t : State) (stream : List ℕ) (at : ℕ) → (call t stream at).reply ≡ Ok Solved → HoldsRig (call t stream at).after
 call_solved t stream at e = subst (λ r. IfSolved r (HoldsRig (call t stream at).after)) e (call-held t stream at)

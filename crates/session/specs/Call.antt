@@ -1,15 +1,14 @@
 -- One call of the library, by documents 01 and 02: the checks before all else, the command at the offset, the reply, and everything that then stands in the record, the buffer and both answers.
 -- Rests on the commands of `Command` and on one of them obeyed, in `Obeyed` of `session_commands`.
-use Rattle.std.specs.Prelude.{ℕ, ◌+◌, ◌≡◌, Bool, not, ◌||◌, cond, List, [], ◌∷◌, length, eqb, ltb, Float}
-use Rattle.std.proofs.Math.Option.{Option, none, some}
+use Rattle.std.specs.Prelude.{ℕ, ◌+◌, ◌≡◌, Bool, not, ◌||◌, cond, List, [], ◌∷◌, length, eqb, ltb, Float, Option, None, Some, Err, Ok}
 use Rattle.refusal.specs.Table.{refuse_if, first_of}
 use Rattle.refusal.specs.declared.Refusal.{Refusal}
 use Rattle.refusal.specs.declared.Refusal.TheVariants.{WrongLength, UnknownCommand, Truncated, TooLong}
 use Rattle.command.specs.Command.{Parsed, complete, broken, unknown, parse}
 use Rattle.session_record.specs.Session.{buffer_length, possible}
 use Rattle.session.specs.declared.Step.{Step}
-use Rattle.session_commands.specs.declared.Reply.TheVariants.{End, Refused}
 use Rattle.session_commands.specs.Obeyed.{first_length, second_length, State, Result, result, obeyed}
+use Rattle.session_commands.specs.declared.Done.TheVariants.{End}
 
 -- "a stream longer than 65,536 bytes"
 abbrev pub max_stream : ℕ
@@ -36,7 +35,7 @@ call_refusal t stream at =
 
 -- A refusal that ends the stream: "the next offset is then its length".
 abbrev pub stopped : State → List ℕ → Refusal → Result
-stopped t stream r = result (Refused r) t (length stream)
+stopped t stream r = result (Err r) t (length stream)
 
 -- ---- one call
 
@@ -51,8 +50,8 @@ unfoldable pub call : State → List ℕ → ℕ → Result
 unfolding call_refusal parse read
 call t stream at =
     elim (call_refusal t stream at) [
-      | some r ↦ stopped t stream r
-      | none ↦ cond (eqb at (length stream)) (result End t at) (read t stream at (parse stream at))
+      | Some r ↦ stopped t stream r
+      | None ↦ cond (eqb at (length stream)) (result (Ok End) t at) (read t stream at (parse stream at))
     ]
 
 -- What the code's answer, and the memory lent to it, are after the call.

@@ -1,17 +1,17 @@
 // The commands of a stream: what stands at an offset says which of them is obeyed.
-ghost use Rattle.std.specs.Prelude.{◌<◌, ◌≡◌, length};
-ghost use Rattle.std.proofs.Math.Option.{none};
+ghost use Rattle.std.specs.Prelude.{◌<◌, ◌≡◌, length, None};
 ghost use Rattle.command.specs.Command.{parse};
 ghost use Rattle.session_record.specs.Session.{session_of};
-ghost use Rattle.session_commands.specs.Obeyed.{state};
 ghost use Rattle.session.specs.Call.{call_refusal, read};
 ghost use Rattle.session_commands.specs.Inner.Turns.{turn_result};
+ghost use Rattle.session_commands.specs.Inner.Lent.{state_in};
+ghost use Rattle.placing.specs.Inner.Lent.{SameAnswers};
 
-use command::parse::{Parsed, SIZE_WIDTH, SOLVE_WIDTH, WITHDRAW_WIDTH, parse};
+use command::parse::{Kind, ParseError, parse};
+use placing::answer::LentAnswers;
 use refusal::Refusal;
 use session_commands::Turn;
 use session_commands::pose::obey_pose;
-use session_commands::replies::refuse;
 use session_commands::size::obey_size;
 use session_commands::solve::obey_solve;
 use session_commands::withdraw::obey_withdraw;
@@ -19,37 +19,45 @@ use session_record::Held;
 use shared_counts::SUMMARY_ENTRIES;
 
 // The command at an offset before the end: 10, 11, or what the command itself does. The summary is changed where it stands.
+#[tactic(auto, using(crate::proofs::PassedCalls::call_passed, session_commands::proofs::PossibleRecords::record_parts), unfolding(crate::specs::Call::read))]
 pub fn obey_command(
     held: Held,
     stream: &[u8],
     at: usize,
     shared: &mut [u8; SUMMARY_ENTRIES],
     buffer: &mut [f64],
-    transforms: &mut [f64],
-    chains: &mut [u8],
+    answers: &mut LentAnswers<'_>,
 ) -> Turn
-    requires { (call_refusal (state (session_of held shared.old) buffer.old transforms.old chains.old) stream.now at ≡ none) × (at < length stream.now) }
-    ensures { turn_result result shared.new buffer.new transforms.new chains.new ≡ read (state (session_of held shared.old) buffer.old transforms.old chains.old) stream.now at (parse stream.now at) }
+    requires { (call_refusal (state_in (session_of held shared.old) buffer.old answers.old) stream.now at ≡ None) × (at < length stream.now) }
+    ensures obeyed { turn_result result shared.new buffer.new answers.new.transforms.now answers.new.chains.now ≡ read (state_in (session_of held shared.old) buffer.old answers.old) stream.now at (parse stream.now at) }
+    ensures same { SameAnswers answers.old answers.new }
 {
-    let end = stream.len();
     match parse(stream, at) {
-        Parsed::Size => obey_size(
+        Err(ParseError::Unknown(byte)) => Turn {
             held,
-            stream[at + 1],
-            stream[at + 2],
-            stream[at + 3],
-            at + SIZE_WIDTH,
-        ),
-        Parsed::Place => obey_pose(held, stream, at, shared, buffer),
-        Parsed::Withdraw => obey_withdraw(
+            reply: Err(Refusal::UnknownCommand(u32::from(byte))),
+            next: stream.len(),
+        },
+        Err(ParseError::Broken) => Turn {
             held,
-            stream[at + 1],
-            stream[at + 2],
-            at + WITHDRAW_WIDTH,
-            shared,
-        ),
-        Parsed::Solve => obey_solve(held, at + SOLVE_WIDTH, buffer, transforms, chains),
-        Parsed::Broken => refuse(held, Refusal::Truncated(at as u32), end),
-        Parsed::Unknown(byte) => refuse(held, Refusal::UnknownCommand(byte as u32), end),
+            reply: Err(Refusal::Truncated(at as u32)),
+            next: stream.len(),
+        },
+        Ok(kind) => {
+            let next = at + kind.width();
+            let edit = match kind {
+                Kind::Size => obey_size(held, stream[at + 1], stream[at + 2], stream[at + 3]),
+                Kind::Pose => obey_pose(held, stream, at, shared, buffer),
+                Kind::Withdraw => obey_withdraw(held, stream[at + 1], stream[at + 2], shared),
+                Kind::Solve => {
+                    return Turn {
+                        held,
+                        reply: obey_solve(held, buffer, answers),
+                        next,
+                    };
+                }
+            };
+            Turn::edited(held, edit, next)
+        }
     }
 }

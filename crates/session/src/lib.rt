@@ -2,20 +2,22 @@
 
 #![tactic(auto)]
 
-ghost use Rattle.std.specs.Prelude.{◌≡◌};
+ghost use Rattle.std.specs.Prelude.{◌≡◌, cond, ltb};
+ghost use Rattle.refusal.specs.declared.Refusal.TheVariants.{TooLong, WrongLength};
 ghost use Rattle.inputs.specs.Inputs.{checked_of};
-ghost use Rattle.session_commands.specs.Obeyed.{state};
-ghost use Rattle.session.specs.Call.{call_refusal, Called};
+ghost use Rattle.session_commands.specs.Inner.Lent.{state_in};
+ghost use Rattle.placing.specs.Inner.Lent.{SameAnswers};
+ghost use Rattle.session.specs.Call.{max_stream, call_refusal, Called};
 
 pub mod commands;
 
 use crate::commands::obey_command;
-use inputs::Checked;
 use limits::{CHAIN_BYTES, MAX_CAMERAS, MAX_VIEWS, POSE_FLOATS};
+use placing::answer::LentAnswers;
 use refusal::Refusal;
-pub use session_commands::{Reply, Turn};
+pub use session_commands::{Done, Turn};
 use session_record::check::is_possible;
-use session_record::{BUFFER_FLOATS, Session, held_of, session_of};
+use session_record::{BUFFER_FLOATS, Held, Session};
 
 // The most bytes of a stream.
 pub const MAX_STREAM: usize = 65536;
@@ -25,83 +27,92 @@ pub const FIRST_FLOATS: usize = POSE_FLOATS * (MAX_CAMERAS + MAX_VIEWS);
 
 pub const SECOND_BYTES: usize = CHAIN_BYTES * MAX_CAMERAS;
 
+// What lengths that do not fit are refused with, beside a stream of so many bytes: 13 comes before 5.
+pub fn wrong_length(stream: usize) -> Refusal
+    ensures { result ≡ cond (ltb max_stream stream) TooLong WrongLength }
+{
+    if MAX_STREAM < stream {
+        Refusal::TooLong
+    } else {
+        Refusal::WrongLength
+    }
+}
+
 // The reply, the session after it, and the offset of the next command.
 #[derive(Clone, Copy)]
 pub struct Step {
     pub session: Session,
-    pub reply: Reply,
+    pub reply: Result<Done, Refusal>,
     pub next: usize,
 }
 
 // 13, then 5, and 11 for an offset past the end.
+#[tactic(auto, using(std::proofs::lemmas::Bool::Decides::nat_tests, crate::proofs::Calling::call_refusal_is), unfolding(inputs::specs::Inputs::checked_of, refusal::specs::Table::refuse_if, refusal::specs::Table::first_of))]
 pub fn check_call(
     session: Session,
     stream: &[u8],
     at: usize,
     buffer: &[f64],
-    transforms: &[f64],
-    chains: &[u8],
-) -> Checked
-    ensures { result ≡ checked_of (call_refusal (state session buffer.now transforms.now chains.now) stream.now at) }
+    answers: &LentAnswers<'_>,
+) -> Result<(), Refusal>
+    ensures { result ≡ checked_of (call_refusal (state_in session buffer.now answers.now) stream.now at) }
 {
     let end = stream.len();
     if MAX_STREAM < end {
-        return Checked::Refused(Refusal::TooLong);
+        return Err(Refusal::TooLong);
     }
-    if (buffer.len() != BUFFER_FLOATS)
-        | (transforms.len() < FIRST_FLOATS)
-        | (chains.len() < SECOND_BYTES)
-        | !is_possible(session)
+    if buffer.len() != BUFFER_FLOATS
+        || answers.transforms.len() < FIRST_FLOATS
+        || answers.chains.len() < SECOND_BYTES
+        || !is_possible(session)
     {
-        return Checked::Refused(Refusal::WrongLength);
+        return Err(Refusal::WrongLength);
     }
     if end < at {
-        return Checked::Refused(Refusal::Truncated(end as u32));
+        return Err(Refusal::Truncated(end as u32));
     }
-    Checked::Passed
+    Ok(())
 }
 
 // Obeys the one command at an offset of the stream. The buffer holds the coordinates; the two answers are written by Solve alone.
+#[tactic(auto, using(crate::proofs::PassedCalls::call_passed, crate::proofs::Calling::call_is, crate::proofs::Calling::called), unfolding(inputs::specs::Inputs::checked_of))]
 pub fn obey(
     session: Session,
     stream: &[u8],
     at: usize,
     buffer: &mut [f64],
-    transforms: &mut [f64],
-    chains: &mut [u8],
+    answers: &mut LentAnswers<'_>,
 ) -> Step
-    ensures { Called (state session buffer.old transforms.old chains.old) stream.now at result buffer.new transforms.new chains.new }
+    ensures called { Called (state_in session buffer.old answers.old) stream.now at result buffer.new answers.new.transforms.now answers.new.chains.now }
+    ensures same { SameAnswers answers.old answers.new }
 {
     let end = stream.len();
-    if let Checked::Refused(refusal) = check_call(session, stream, at, buffer, transforms, chains) {
+    if let Err(refusal) = check_call(session, stream, at, buffer, answers) {
         return Step {
-            session: session,
-            reply: Reply::Refused(refusal),
+            session,
+            reply: Err(refusal),
             next: end,
         };
     }
     if at == end {
         return Step {
-            session: session,
-            reply: Reply::End,
+            session,
+            reply: Ok(Done::End),
             next: end,
         };
     }
     let mut shared = session.shared;
     let turn = obey_command(
-        held_of(session),
+        Held::from(session),
         stream,
         at,
         &mut shared,
         buffer,
-        transforms,
-        chains,
+        answers,
     );
-    let held = turn.held;
-    let reply = turn.reply;
     Step {
-        session: session_of(held, shared),
-        reply: reply,
+        session: turn.held.with_summary(shared),
+        reply: turn.reply,
         next: turn.next,
     }
 }

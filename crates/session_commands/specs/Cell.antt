@@ -1,6 +1,5 @@
 -- The checks that every command which names a cell begins with, by documents 01 and 02: 21, then 12. Rests on the record of `Session`.
-use Rattle.std.specs.Prelude.{ℕ, not, ◌||◌, List, [], ◌∷◌, leb}
-use Rattle.std.proofs.Math.Option.{Option}
+use Rattle.std.specs.Prelude.{ℕ, not, ◌||◌, List, [], ◌∷◌, leb, Option}
 use Rattle.refusal.specs.Table.{refuse_if}
 use Rattle.refusal.specs.declared.Refusal.{Refusal}
 use Rattle.refusal.specs.declared.Refusal.TheVariants.{NoSize, OutsideRig}

@@ -1,7 +1,6 @@
 -- All commands of a stream: what refuses one and what an accepted one leaves in the record and the buffer, the edits on one side and Solve on the other.
 -- Rests on `Size`, `Pose`, `Withdraw` and `Solve`, one file a command.
-use Rattle.std.specs.Prelude.{◌≡◌, List, Float}
-use Rattle.std.proofs.Math.Option.{Option, none}
+use Rattle.std.specs.Prelude.{◌≡◌, List, Float, Option, None}
 use Rattle.refusal.specs.declared.Refusal.{Refusal}
 use Rattle.command.specs.Command.{Edit, size, place, withdraw, Command, edit, solve}
 use Rattle.session_record.specs.Session.{fresh, held_of, summed}
@@ -59,4 +58,4 @@ buffer_after buffer solve = buffer
 -- A fresh session, and what an accepted command leaves of such a record, whatever the buffer then held.
 pub data Left : Session → Type 0 where
   left-fresh : Left fresh
-  left_after : {s : Session} (buffer : List Float) (command : Command) → Left s → command_refusal (held_of s) buffer command ≡ none → Left (session_after s command)
+  left_after : {s : Session} (buffer : List Float) (command : Command) → Left s → command_refusal (held_of s) buffer command ≡ None → Left (session_after s command)

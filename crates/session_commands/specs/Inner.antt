@@ -1,2 +1,4 @@
 -- What the functions of `session_commands` promise each other; no demand rests on it. Definitions only.
+pub mod Cells
 pub mod Turns
+pub mod Lent

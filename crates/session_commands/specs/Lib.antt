@@ -6,5 +6,6 @@ pub mod Pose
 pub mod Withdraw
 pub mod Solve
 pub mod Commands
+pub mod Reply
 pub mod Obeyed
 pub mod Inner

@@ -1,15 +1,14 @@
 -- One command obeyed, by documents 01 and 02: the reply, and everything that then stands in the record, the buffer and both answers.
 -- Rests on the commands of `Command` and what they do in `Commands`.
-use Rattle.std.specs.Prelude.{ℕ, List, Float}
-use Rattle.std.proofs.Math.Option.{none, some}
+use Rattle.std.specs.Prelude.{ℕ, List, Float, None, Some, Err, Ok}
 use Rattle.limits.specs.Limits.{max_views, max_cameras, first_needs, second_needs}
 use Rattle.command.specs.Command.{Command, edit, solve}
 use Rattle.session_record.specs.Session.{held_of}
 use Rattle.session_commands.specs.Solve.{first_after_solve, second_after_solve}
 use Rattle.session_commands.specs.Commands.{command_refusal, session_after, buffer_after}
 use Rattle.session_record.specs.declared.Session.{Session}
-use Rattle.session_commands.specs.declared.Reply.{Reply}
-use Rattle.session_commands.specs.declared.Reply.TheVariants.{Accepted, Solved, Refused}
+use Rattle.session_commands.specs.Reply.{Reply}
+use Rattle.session_commands.specs.declared.Done.TheVariants.{Accepted, Solved}
 
 -- "two lent answers of at least 560 floats and 32 bytes"
 abbrev pub first_length : ℕ
@@ -40,8 +39,8 @@ result r t n = record { reply = r; after = t; next = n }
 -- ---- a command obeyed
 
 unfoldable pub reply_to : Command → Reply
-reply_to (edit e) = Accepted
-reply_to solve = Solved
+reply_to (edit e) = Ok Accepted
+reply_to solve = Ok Solved
 
 -- Solve writes both answers; no other command does.
 unfoldable pub first_after : State → Command → List Float
@@ -62,4 +61,4 @@ state_after t command = state (session_after t.session command) (buffer_after t.
 unfoldable pub obeyed : State → Command → ℕ → Result
 unfolding command_refusal state_after reply_to
 obeyed t command next =
-    elim (command_refusal (held_of t.session) t.buffer command) [ some r ↦ result (Refused r) t next | none ↦ result (reply_to command) (state_after t command) next ]
+    elim (command_refusal (held_of t.session) t.buffer command) [ Some r ↦ result (Err r) t next | None ↦ result (reply_to command) (state_after t command) next ]

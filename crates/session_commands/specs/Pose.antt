@@ -1,7 +1,6 @@
 -- The command Pose, by document 01: what refuses it, in order, and the record and the buffer that it leaves. Rests on the poses of `arithmetic` and the
 -- masks of `lists`, and on the checks of `Cell`.
-use Rattle.std.specs.Prelude.{ℕ, ◌+◌, ◌*◌, ◌^◌, not, List, [], ◌∷◌, ◌++◌, get_or, set, take, drop, Float}
-use Rattle.std.proofs.Math.Option.{Option}
+use Rattle.std.specs.Prelude.{ℕ, ◌+◌, ◌*◌, ◌^◌, not, List, [], ◌∷◌, ◌++◌, get_or, set, take, drop, Float, Option}
 use Rattle.arithmetic.specs.Pose.{finite_pose, flat}
 use Rattle.arithmetic.specs.declared.pose.Pose.{Pose}
 use Rattle.refusal.specs.Table.{refuse_if, first_of}

@@ -1,6 +1,5 @@
 -- The command Size, by document 01: what refuses it, in order, and the record that it leaves; the buffer stays. Rests on the checks of `inputs`.
-use Rattle.std.specs.Prelude.{ℕ, [], ◌∷◌}
-use Rattle.std.proofs.Math.Option.{Option}
+use Rattle.std.specs.Prelude.{ℕ, [], ◌∷◌, Option}
 use Rattle.refusal.specs.Table.{refuse_if, first_of}
 use Rattle.refusal.specs.declared.Refusal.{Refusal}
 use Rattle.refusal.specs.declared.Refusal.TheVariants.{SizeAgain}

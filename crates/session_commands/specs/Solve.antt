@@ -1,7 +1,6 @@
 -- The command Solve, by document 01: what refuses it, in order, and the two answers that it leaves; record and buffer stay. "Solve answers as the direct
 -- call would on the grid that masks and buffer hold." Rests on the outcomes of `extrinsics`.
-use Rattle.std.specs.Prelude.{ℕ, not, List, [], ◌∷◌, Float}
-use Rattle.std.proofs.Math.Option.{Option, none}
+use Rattle.std.specs.Prelude.{ℕ, not, List, [], ◌∷◌, Float, Option, None}
 use Rattle.refusal.specs.Table.{refuse_if, first_of}
 use Rattle.refusal.specs.declared.Refusal.{Refusal}
 use Rattle.refusal.specs.declared.Refusal.TheVariants.{NoSize}
@@ -18,8 +17,8 @@ solve_command_refusal h buffer = first_of (refuse_if (not (has_size h)) NoSize �
 
 unfoldable pub first_after_solve : Held → List Float → List Float → List Float
 unfolding answered transforms
-first_after_solve h buffer first = answered none (transforms (session_grid h buffer)) first
+first_after_solve h buffer first = answered None (transforms (session_grid h buffer)) first
 
 unfoldable pub second_after_solve : Held → List Float → List ℕ → List ℕ
 unfolding answered chains
-second_after_solve h buffer second = answered none (chains (session_grid h buffer)) second
+second_after_solve h buffer second = answered None (chains (session_grid h buffer)) second

@@ -1,7 +1,6 @@
 -- The command Withdraw, by document 02, change 1: what refuses it, in order, and the record that it leaves; it "writes no float", so that the buffer
 -- stays. Rests on the masks of `lists` and the checks of `Cell`.
-use Rattle.std.specs.Prelude.{ℕ, ◌-◌, ◌^◌, not, [], ◌∷◌, ◌++◌, get_or, set}
-use Rattle.std.proofs.Math.Option.{Option}
+use Rattle.std.specs.Prelude.{ℕ, ◌-◌, ◌^◌, not, [], ◌∷◌, ◌++◌, get_or, set, Option}
 use Rattle.refusal.specs.Table.{refuse_if, first_of}
 use Rattle.refusal.specs.declared.Refusal.{Refusal}
 use Rattle.refusal.specs.declared.Refusal.TheVariants.{NotHeld}

@@ -1,10 +1,11 @@
-// What each command of a stream does, a file a command: what is held before it comes in, and a turn goes out.
+// What each command of a stream does, a file a command: what is held before it comes in, and what is held after it, or why it is refused, goes out.
 
 #![tactic(auto)]
 
+ghost use Rattle.std.specs.Prelude.{◌≡◌};
+
 mod cell;
 pub mod pose;
-pub mod replies;
 pub mod size;
 pub mod solve;
 pub mod withdraw;
@@ -12,22 +13,43 @@ pub mod withdraw;
 use refusal::Refusal;
 use session_record::Held;
 
-// What a call of `session` answers; a command never answers End.
-#[derive(Clone, Copy)]
-pub enum Reply {
+// What a call of `session` did; a command never answers End.
+#[derive(Clone, Copy, Debug, PartialEq, Eq)]
+pub enum Done {
     // The offset is the stream's length.
     End,
     // Size, Pose or Withdraw was obeyed.
     Accepted,
     // Solve was obeyed: the rig stands in the lent answers.
     Solved,
-    Refused(Refusal),
 }
 
 // What a command hands on: the reply, what is held after it, and the offset of the next command. The summary stands apart from it.
 #[derive(Clone, Copy)]
 pub struct Turn {
     pub held: Held,
-    pub reply: Reply,
+    pub reply: Result<Done, Refusal>,
     pub next: usize,
+}
+
+impl Turn {
+    ghost use Rattle.session_commands.specs.Inner.Turns.{edit_turn};
+
+    // A command that edits what is held was obeyed, or refused: then what is held stays as it is.
+    pub fn edited(held: Held, edit: Result<Held, Refusal>, next: usize) -> Turn
+        ensures { result ≡ edit_turn held edit next }
+    {
+        match edit {
+            Ok(after) => Turn {
+                held: after,
+                reply: Ok(Done::Accepted),
+                next,
+            },
+            Err(refusal) => Turn {
+                held,
+                reply: Err(refusal),
+                next,
+            },
+        }
+    }
 }

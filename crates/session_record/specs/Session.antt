@@ -1,9 +1,7 @@
 -- What a session holds, by documents 01 and 02: the record, what it is without its summary, the buffer beside it, how a part of it is changed, and which
 -- records accepted commands can leave, told by a check. What each command does is in the crate `session_commands`, a file a command; the record as words for C is
 -- in `Words` of the crate `record_words`. Rests on the grids of `placing` and the summary of `shared_counts`.
-use Rattle.std.specs.Prelude.{ℕ, ◌+◌, ◌*◌, ◌^◌, Bool, true, false, not, ◌&&◌, ◌||◌, cond, List, get_or, replicate, eqb, ltb, Float}
-use Rattle.std.proofs.Math.Option.{Option, none, some}
-use Rattle.refusal.specs.declared.Refusal.{Refusal}
+use Rattle.std.specs.Prelude.{ℕ, ◌+◌, ◌*◌, ◌^◌, Bool, not, ◌&&◌, ◌||◌, cond, List, get_or, replicate, eqb, ltb, is_none, Float}
 use Rattle.limits.specs.Limits.{max_cameras}
 use Rattle.lists.specs.Finding.{all_below}
 use Rattle.placing.specs.Grid.{Grid}
@@ -65,10 +63,6 @@ session_grid h buffer = rig_grid (rig_of h) buffer
 -- ---- the record checked: "a session record handed in has sizes, a reference or mask bits that no accepted commands could leave", and "A session record
 -- handed in with a false entry is 5"
 
-unfoldable pub is_none : Option Refusal → Bool
-is_none none = true
-is_none (some r) = false
-
 -- No sizes at all, or sizes that Size accepts.
 abbrev pub possible_sizes : Held → Bool
 possible_sizes h = eqb h.views 0 && eqb h.cameras 0 && eqb h.reference 0 || is_none (size_refusal h.views h.cameras h.reference)
@@ -82,7 +76,7 @@ possible_masks h = all_below (mask_fits h) max_cameras
 
 -- What is held, each part by its own check.
 unfoldable pub possible_held : Held → Bool
-unfolding all_below is_none size_refusal
+unfolding all_below size_refusal
 possible_held h = possible_sizes h && possible_masks h
 
 -- The whole record: what is held, and the summary of its masks.

@@ -2,9 +2,8 @@
 #![tactic(auto)]
 
 ghost use Rattle.std.specs.Prelude.{◌≡◌};
-ghost use Rattle.session_record.specs.Session.{fresh, held_of, session_of};
+ghost use Rattle.session_record.specs.Session.{fresh};
 
-pub mod change;
 pub mod check;
 
 use limits::{MAX_CAMERAS, MAX_VIEWS, POSE_FLOATS};
@@ -25,6 +24,7 @@ pub struct Session {
 }
 
 // The record without its summary, which no answer goes by. Commands hand this on, and change the summary where it stands.
+// Kept: four fields that `Session` has too, since the record is flat, as C hands it in: nested, each clause would read `session.held.views`.
 #[derive(Clone, Copy)]
 pub struct Held {
     pub masks: [u64; MAX_CAMERAS],
@@ -45,27 +45,52 @@ pub fn fresh() -> Session
     }
 }
 
-pub fn held_of(session: Session) -> Held
-    ensures { result ≡ held_of session }
-{
-    let masks = session.masks;
-    Held {
-        masks: masks,
-        views: session.views,
-        cameras: session.cameras,
-        reference: session.reference,
+impl From<Session> for Held {
+    ghost use Rattle.session_record.specs.Session.{held_of};
+
+    ghost from_gives = { λ session held. held ≡ held_of session };
+
+    fn from(session: Session) -> Held {
+        let masks = session.masks;
+        Held {
+            masks,
+            views: session.views,
+            cameras: session.cameras,
+            reference: session.reference,
+        }
     }
 }
 
-pub fn session_of(held: Held, shared: [u8; SUMMARY_ENTRIES]) -> Session
-    ensures { result ≡ session_of held shared }
-{
-    let masks = held.masks;
-    Session {
-        masks: masks,
-        views: held.views,
-        cameras: held.cameras,
-        reference: held.reference,
-        shared: shared,
+impl Held {
+    ghost use Rattle.session_record.specs.Session.{session_of, with_sizes, with_masks};
+
+    pub fn with_summary(self, shared: [u8; SUMMARY_ENTRIES]) -> Session
+        ensures { result ≡ session_of self shared }
+    {
+        let masks = self.masks;
+        Session {
+            masks,
+            views: self.views,
+            cameras: self.cameras,
+            reference: self.reference,
+            shared,
+        }
+    }
+
+    pub fn with_sizes(self, views: u8, cameras: u8, reference: u8) -> Held
+        ensures { result ≡ with_sizes self views cameras reference }
+    {
+        Held {
+            views,
+            cameras,
+            reference,
+            ..self
+        }
+    }
+
+    pub fn with_masks(self, masks: [u64; MAX_CAMERAS]) -> Held
+        ensures { result ≡ with_masks self masks }
+    {
+        Held { masks, ..self }
     }
 }

@@ -5,7 +5,7 @@ use native.Mathlib.Nat.{zero-div}
 use native.Mathlib.Omega.{arith}
 use mathlib.Core.Path.{◌≡◌, refl, sym, ap, ◌∙◌}
 use mathlib.Core.Logic.{◌≢◌}
-use mathlib.Core.Bool.{Bool, true, false, ◌&&◌, cond, and_comm, true≢false}
+use mathlib.Core.Bool.{Bool, true, false, ◌&&◌, and_comm, true≢false}
 use mathlib.Core.List.{List}
 use lib.ListN.{length, get_or, set, get_or-eq_default}
 use lib.Seq.{get_or-set_same, get_or-set_other}
@@ -34,7 +34,7 @@ in_mask-zero : (v : ℕ) → in_mask 0 v ≡ false
 unfolding in_mask
 in_mask-zero v = ne_eqb (0 / 2 ^ v % 2) 1 (omega (arith, zero-div (2 ^ v)))
 
-views_of_both-zero : (y : ℕ) → views_of_both 0 y ≡ 0
+pub views_of_both-zero : (y : ℕ) → views_of_both 0 y ≡ 0
 unfolding views_of_both
 views_of_both-zero y = count_until (λ v. in_mask 0 v && in_mask y v) max_views (λ v _. rw (in_mask-zero v))
 
@@ -52,12 +52,8 @@ count-one_more f g m q l fails passes other = le_ind (λ (k : ℕ). count g k �
     first : count g (suc q) ≡ suc (count f (suc q))
     first = rw (fails, passes) (ap suc (count_agree g f q (λ i k. sym (other i (omega arith)))))
 
-    next : (t : Bool) (k : ℕ) → count g k ≡ suc (count f k) → cond t (suc (count g k)) (count g k) ≡ suc (cond t (suc (count f k)) (count f k))
-    next true k e = ap suc e
-    next false k e = e
-
     more : (k : ℕ) → suc q ≤ k → count g k ≡ suc (count f k) → count g (suc k) ≡ suc (count f (suc k))
-    more k h e = rw (other k (omega arith)) (next (g k) k e)
+    more k h e = grind (arith, other k)
 
 bit_held : (m v : ℕ) → in_mask m v ≡ true → m / 2 ^ v % 2 ≡ 1
 unfolding in_mask
@@ -85,11 +81,9 @@ views_of_both_more x x' y y' v l held clear sameX sameY = go (in_mask y v) refl
 
     go : (t : Bool) → in_mask y v ≡ t → count after max_views ≡ count before max_views + y / 2 ^ v % 2
     go true e = count-one_more before after max_views v l (rw clear) (rw (held, e)) other ∙ omega (arith, bit_held y v e)
-    go false e = count_agree after before max_views (λ w _. each w (ℕ_discrete w v)) ∙ omega (arith, bit_clear y v e)
-      where
-        each : (w : ℕ) → Dec (w ≡ v) → after w ≡ before w
-        each w (yes s) = rw (s, held, e, clear)
-        each w (no d) = sym (other w d)
+    go false e =
+        count_agree after before max_views (λ w _. elim (ℕ_discrete w v) [ yes s ↦ rw (s, held, e, clear) | no d ↦ sym (other w d) ])
+        ∙ omega (arith, bit_clear y v e)
 
 -- ---- one view more of a camera
 
@@ -107,23 +101,23 @@ shared_by_other masks camera view a b d e = rw (other_mask masks camera view a d
 module _ (masks : List ℕ) (camera view : ℕ) (held : in_mask (get_or masks camera 0) view ≡ true) where
   -- A mask past the end holds no view.
   inside : camera < length masks
-  inside = go (dec_lt camera (length masks))
-    where
-      go : Dec (camera < length masks) → camera < length masks
-      go (yes h) = h
-      go (no h) =
-          let none : get_or masks camera 0 ≡ 0 = get_or-eq_default masks 0 (omega arith) in
-          absurd (true≢false (sym held ∙ rw none (in_mask-zero view)))
+  inside =
+      elim (dec_lt camera (length masks)) [
+        | yes h ↦ h
+        | no h ↦
+            let none : get_or masks camera 0 ≡ 0 = get_or-eq_default masks 0 (omega arith) in
+            absurd (true≢false (sym held ∙ rw none (in_mask-zero view)))
+      ]
 
   same_mask : get_or (without masks camera view) camera 0 ≡ get_or masks camera 0 - 2 ^ view
   same_mask = get_or-set_same masks camera (get_or masks camera 0 - 2 ^ view) 0 inside
 
   other_views : (b w : ℕ) → w ≢ view → in_mask (get_or (without masks camera view) b 0) w ≡ in_mask (get_or masks b 0) w
-  other_views b w d = go (ℕ_discrete b camera)
-    where
-      go : Dec (b ≡ camera) → in_mask (get_or (without masks camera view) b 0) w ≡ in_mask (get_or masks b 0) w
-      go (yes s) = rw (s, same_mask) (in_mask_minus_other (get_or masks camera 0) view held w d)
-      go (no s) = rw (other_mask masks camera view b s)
+  other_views b w d =
+      elim (ℕ_discrete b camera) [
+        | yes s ↦ rw (s, same_mask) (in_mask_minus_other (get_or masks camera 0) view held w d)
+        | no s ↦ rw (other_mask masks camera view b s)
+      ]
 
   pub shared_by_more : view < max_views → (b : ℕ) → shared_by masks camera b ≡ shared_by (without masks camera view) camera b + get_or masks b 0 / 2 ^ view % 2
   unfolding shared_by

@@ -1,40 +1,24 @@
--- The check's loops: one entry more of a camera, and that all cameras' entries are true exactly where the list is the summary. Assumes nothing.
+-- That all cameras' entries are true exactly where the list is the summary. Assumes nothing.
 use Prim.Native.Nat.{ℕ, ◌+◌, ◌*◌, ◌≤◌, ◌<◌}
 use native.Mathlib.Decide.{dec_lt}
-use native.Mathlib.Numerals.{add-one}
 use native.Mathlib.Omega.{arith}
 use mathlib.Core.Path.{◌≡◌, sym, ◌∙◌}
-use mathlib.Core.Bool.{true, and_assoc}
+use mathlib.Core.Bool.{true}
 use mathlib.Core.List.{List}
 use lib.ListN.{length, get_or}
-use lib.Bits.{bit_or, bit_xor}
-use lib.Dec.{eqb}
 use borrow.Author.Tests.{eqb-true, eq-eqb}
 use Rattle.limits.specs.Limits.{max_cameras}
 use Rattle.lists.specs.Finding.{all_below}
 use Rattle.chains.specs.Masks.{shared_by}
-use Rattle.shared_counts.specs.Summary.{entry_place, summary_of, is_summary}
+use Rattle.shared_counts.specs.Summary.{summary_of, is_summary}
 use Rattle.shared_counts.specs.Inner.Counts.{true_entries, true_up_to}
 use Rattle.lists.proofs.Tests.{and-true}
 use Rattle.lists.proofs.AllBelow.{all_below_at}
 use Rattle.shared_counts.proofs.Tests.{same_tests, all_below_each}
-use Rattle.shared_counts.proofs.ZeroTests.{or-zero, xor-zero}
 use Rattle.shared_counts.proofs.SharedViews.{shared_by-symmetric}
 use Rattle.shared_counts.proofs.Summaries.{summary_at, summary_of_entries, summary_of_is_summary, is_summary_of_summary}
 
 module _ (masks shared : List ℕ) where
-  -- Nothing is wrong after a turn where nothing was before it and both entries are the count.
-  pub true_entries_more : (camera other wrong count : ℕ) → eqb wrong 0 ≡ all_below (true_entries masks shared camera) other → count ≡ shared_by masks camera other
-      → eqb (bit_or (bit_or wrong (bit_xor count (get_or shared (entry_place camera other) 0))) (bit_xor count (get_or shared (entry_place other camera) 0))) 0
-      ≡ all_below (true_entries masks shared camera) (other + 1)
-  unfolding all_below true_entries
-  true_entries_more camera other wrong count before counts =
-      let both = shared_by masks camera other in
-      let row = get_or shared (entry_place camera other) 0 in
-      let column = get_or shared (entry_place other camera) 0 in
-      rw (counts, or-zero, or-zero, xor-zero both row, xor-zero both column, before, add-one)
-      (and_assoc (all_below (true_entries masks shared camera) other) (eqb both row) (eqb both column))
-
   true_entries_both : (a b : ℕ) → true_entries masks shared a b ≡ true
       → (get_or shared (a * 16 + b) 0 ≡ shared_by masks a b) × (get_or shared (b * 16 + a) 0 ≡ shared_by masks b a)
   unfolding true_entries

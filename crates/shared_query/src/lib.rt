@@ -5,43 +5,34 @@ ghost use Rattle.std.specs.Prelude.{◌≡◌};
 ghost use Rattle.inputs.specs.Inputs.{checked_of};
 ghost use Rattle.shared_query.specs.Query.{query_refusal, shared_answer};
 
-use inputs::Checked;
 use limits::MAX_CAMERAS;
 use refusal::Refusal;
 use session_record::Session;
 use session_record::check::is_possible;
 
-// What the query answers.
-#[derive(Clone, Copy)]
-pub enum Shared {
-    Refused(Refusal),
-    Count(u32),
-}
-
 // 5, then 21 and 12.
-fn check_query(session: Session, first: u8, second: u8) -> Checked
+#[tactic(auto, unfolding(crate::specs::Query::query_refusal, inputs::specs::Inputs::checked_of))]
+fn check_query(session: Session, first: u8, second: u8) -> Result<(), Refusal>
     ensures { result ≡ checked_of (query_refusal session first second) }
 {
     if !is_possible(session) {
-        return Checked::Refused(Refusal::WrongLength);
+        return Err(Refusal::WrongLength);
     }
     if session.views == 0 {
-        return Checked::Refused(Refusal::NoSize);
+        return Err(Refusal::NoSize);
     }
-    if (session.cameras <= first) | (session.cameras <= second) {
-        return Checked::Refused(Refusal::OutsideRig(first as u32 * 256 + second as u32));
+    if session.cameras <= first || session.cameras <= second {
+        return Err(Refusal::OutsideRig(u32::from(first) * 256 + u32::from(second)));
     }
-    Checked::Passed
+    Ok(())
 }
 
 // The entry of two cameras; a camera with itself counts its own poses.
-pub fn shared_views(session: Session, first: u8, second: u8) -> Shared
+#[tactic(auto, using(crate::proofs::Queries::query_passed), unfolding(crate::specs::Query::shared_answer, inputs::specs::Inputs::checked_of))]
+pub fn shared_views(session: Session, first: u8, second: u8) -> Result<u32, Refusal>
     ensures { result ≡ shared_answer session first second }
 {
-    match check_query(session, first, second) {
-        Checked::Refused(refusal) => Shared::Refused(refusal),
-        Checked::Passed => Shared::Count(
-            session.shared[first as usize * MAX_CAMERAS + second as usize] as u32,
-        ),
-    }
+    check_query(session, first, second)?;
+    let entry = usize::from(first) * MAX_CAMERAS + usize::from(second);
+    Ok(u32::from(session.shared[entry]))
 }

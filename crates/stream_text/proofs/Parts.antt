@@ -6,32 +6,28 @@ use native.Mathlib.Omega.{arith}
 use mathlib.Core.Path.{◌≡◌, refl, sym, ap, ◌∙◌, subst}
 use mathlib.Core.Logic.{◌⊎◌, inl, inr}
 use mathlib.Core.Bool.{Bool, true, false, false≢true, ◌&&◌, cond}
-use mathlib.Core.Option.{none, some}
+use Rattle.std.specs.Prelude.{None, Some}
 use mathlib.Core.List.{List, [], ◌++◌, append-nil, append_assoc}
-use lib.ListN.{length, take, drop}
+use lib.ListN.{length}
 use lib.Dec.{T, leb, ltb}
 use lib.Ieee.{Float}
-use borrow.Rule.Slice.PartMut.{mid_of, put_mid, mid_len}
 use borrow.Author.Tests.{lt-ltb, le-ltb, le-leb, lt-leb, ltb-true, ltb-false, leb-true, leb-false}
 use Rattle.lists.proofs.Tests.{and-true}
 use Rattle.refusal.specs.declared.Refusal.{Refusal}
 use Rattle.refusal.specs.declared.Refusal.TheVariants.{TooLong, WrongLength}
-use Rattle.inputs.specs.declared.Checked.{Checked}
+use Rattle.inputs.specs.Inputs.{Checked}
 use Rattle.command.specs.Command.{Parsed, complete, broken, unknown, parse}
 use Rattle.session_record.specs.Session.{held_of, session_of}
 use Rattle.session_commands.specs.Obeyed.{State, state, Result}
 use Rattle.session.specs.Call.{max_stream, call_refusal, read, call}
 use Rattle.session_commands.specs.Inner.Turns.{turn_result}
-use Rattle.session_record.specs.declared.Held.{Held}
 use Rattle.session_record.specs.declared.Session.{Session}
 use Rattle.session_commands.specs.declared.Turn.{Turn}
-use Rattle.session_commands.specs.declared.Reply.TheVariants.{Refused}
 use Rattle.session.proofs.PassedCalls.{call_passed}
 use Rattle.session.proofs.Calling.{call-read}
 use Rattle.command.proofs.Decoding.{parse-complete}
 use Rattle.session.proofs.Advancing.{call_advances}
-use Rattle.placing.proofs.Filling.{put_tail}
-use Rattle.listing.specs.Listing.{refusal_line, reply_text, listing_bytes, fits, written, printed_by}
+use Rattle.listing.specs.Listing.{refusal_line, listing_bytes, written, printed_by}
 use Rattle.listing.specs.Writing.{Front}
 use Rattle.putting.specs.Inner.Putting.{Put}
 use Rattle.putting.proofs.Putting.{put_nothing, put_length, put_then}
@@ -107,9 +103,9 @@ module _ (stream : List ℕ) where
 -- ---- the state that a call leaves
 
 abbrev PassesNext : List ℕ → Result → Type 0
-PassesNext stream r = call_refusal r.after stream r.next ≡ none
+PassesNext stream r = call_refusal r.after stream r.next ≡ None
 
-module _ (t : State) (stream : List ℕ) (at : ℕ) (passes : call_refusal t stream at ≡ none) where
+module _ (t : State) (stream : List ℕ) (at : ℕ) (passes : call_refusal t stream at ≡ None) where
   usable : Usable t
   usable =
       let ready = call_passed t stream at passes in
@@ -120,11 +116,11 @@ module _ (t : State) (stream : List ℕ) (at : ℕ) (passes : call_refusal t str
         record_possible = subst T (sym ready.record_possible) tt;
       }
 
-  passes_at : (t' : State) → Usable t' → (at' : ℕ) → at' ≤ length stream → call_refusal t' stream at' ≡ none
+  passes_at : (t' : State) → Usable t' → (at' : ℕ) → at' ≤ length stream → call_refusal t' stream at' ≡ None
   passes_at t' u at' h = call_refusal_passes t' stream at' (passes_of_usable t' stream (call_passed t stream at passes).stream_fits u) h
 
   -- Whatever the command answers, the next call finds nothing to refuse before all else.
-  pub call_keeps_passing : at < length stream → call_refusal (call t stream at).after stream (call t stream at).next ≡ none
+  pub call_keeps_passing : at < length stream → call_refusal (call t stream at).after stream (call t stream at).next ≡ None
   unfolding read
   call_keeps_passing h = go (parse stream at) refl
     where
@@ -169,10 +165,10 @@ part_within_advances stream most t at room h holds =
     (omega (arith, call_advances t stream at h, part_within-next stream most (call t stream at).after (call t stream at).next (room - length (printed_by (call t stream at)))))
 
 -- The next part may begin unchecked.
-pub part_within_keeps_passing : (stream : List ℕ) (most : ℕ) (t : State) (at room : ℕ) → call_refusal t stream at ≡ none
-    → call_refusal (part_within most t stream at room).after stream (part_within most t stream at room).next ≡ none
+pub part_within_keeps_passing : (stream : List ℕ) (most : ℕ) (t : State) (at room : ℕ) → call_refusal t stream at ≡ None
+    → call_refusal (part_within most t stream at room).after stream (part_within most t stream at room).next ≡ None
 part_within_keeps_passing stream most t at room passes =
-    part_within_keeps stream (λ (t' : State) (n : ℕ). call_refusal t' stream n ≡ none) (λ t' n h k. call_keeps_passing t' stream n k h) most t at room passes
+    part_within_keeps stream (λ (t' : State) (n : ℕ). call_refusal t' stream n ≡ None) (λ t' n h k. call_keeps_passing t' stream n k h) most t at room passes
 
 -- ---- a part in the making
 
@@ -183,13 +179,13 @@ left_over room used more = omega arith
 pub record Going (p : Part) (t : State) (stream : List ℕ) (at used : ℕ) (old new : List ℕ) : Type 0 where
   pub said : List ℕ
   pub put : Put old 0 said new used
-  pub passes : call_refusal t stream at ≡ none
+  pub passes : call_refusal t stream at ≡ None
   pub goes : p ≡ behind said (part_within (length stream) t stream at (length old - used))
 
 whole : (room : ℕ) → room ≡ room - 0
 whole room = omega arith
 
-pub going_first : (t : State) (stream : List ℕ) (at : ℕ) (old : List ℕ) → call_refusal t stream at ≡ none
+pub going_first : (t : State) (stream : List ℕ) (at : ℕ) (old : List ℕ) → call_refusal t stream at ≡ None
     → Going (part_within (length stream) t stream at (length old)) t stream at 0 old old
 going_first t stream at old passes =
     record {
@@ -253,24 +249,6 @@ module _ {p : Part} {t : State} {stream : List ℕ} {at used : ℕ} {old new : L
   going_advances h turn shared buffer first second obeyed =
       subst (λ (r : Result). at < r.next) (sym (obeyed ∙ sym (call-read t stream at g.passes (λ e. omega arith)))) (call_advances t stream at h)
 
--- ---- text put into the part behind the bytes in use
-
-pub put_behind : (old : List ℕ) (used : ℕ) (text : ℕ → List ℕ) (new : List ℕ) (count : ℕ) → used ≤ length old → length new ≡ length old - used
-    → Front (mid_of used (length old - used) old) (text (length (mid_of used (length old - used) old))) new count
-    → Put old used (text (length old - used)) (put_mid used (length old - used) old new) (used + count)
-put_behind old used text new count h same f =
-    let room = length old - used in
-    let wide : length (mid_of used room old) ≡ room = mid_len used (length old) old (omega arith) in
-    let said : text (length (mid_of used room old)) ≡ text room = ap text wide in
-    let many : count ≡ length (text room) = f.text_length ∙ ap length said in
-    record {
-      room = omega (arith, many, f.within, same);
-      bytes =
-          put_tail old new (text room) used count h (f.text_bytes_is ∙ ap (λ (l : List ℕ). l ++ drop count (mid_of used room old)) said)
-          ∙ ap (λ (n : ℕ). take used old ++ (text room ++ drop (used + n) old)) many;
-      behind = ap (λ (n : ℕ). used + n) many;
-    }
-
 -- ---- what the code's answer says
 
 -- An answer that has a part's record and offset, and its text at the front.
@@ -288,11 +266,11 @@ leaves_of e same {count} {old} {new} x f =
     }
 
 module _ (t : State) (stream : List ℕ) (at room : ℕ) where
-  pub text_refusal-short : room < listing_bytes → text_refusal stream room ≡ some (cond (ltb max_stream (length stream)) TooLong WrongLength)
+  pub text_refusal-short : room < listing_bytes → text_refusal stream room ≡ Some (cond (ltb max_stream (length stream)) TooLong WrongLength)
   unfolding text_refusal
   text_refusal-short h = rw (lt-leb listing_bytes room h)
 
-  pub text_refusal-holds : listing_bytes ≤ room → text_refusal stream room ≡ none
+  pub text_refusal-holds : listing_bytes ≤ room → text_refusal stream room ≡ None
   unfolding text_refusal
   text_refusal-holds h = rw (le-leb listing_bytes room h)
 
@@ -300,11 +278,11 @@ module _ (t : State) (stream : List ℕ) (at room : ℕ) where
   unfolding part_in
   part_in-short h = rw (text_refusal-short h, part_in)
 
-  pub part_in-refused : listing_bytes ≤ room → (r : Refusal) → call_refusal t stream at ≡ some r → part_in t stream at room ≡ part t (length stream) (refusal_line r)
+  pub part_in-refused : listing_bytes ≤ room → (r : Refusal) → call_refusal t stream at ≡ Some r → part_in t stream at room ≡ part t (length stream) (refusal_line r)
   unfolding part_in part_from
   part_in-refused h r e = rw (text_refusal-holds h, part_in) (rw (e, part_from))
 
-  pub part_in_passes : listing_bytes ≤ room → call_refusal t stream at ≡ none → part_in t stream at room ≡ part_within (length stream) t stream at room
+  pub part_in_passes : listing_bytes ≤ room → call_refusal t stream at ≡ None → part_in t stream at room ≡ part_within (length stream) t stream at room
   unfolding part_in part_from
   part_in_passes h e = rw (text_refusal-holds h, part_in) (rw (e, part_from))
 
@@ -312,8 +290,13 @@ pub leaves_same : {p q : Part} {answer : StreamText} {buffer first : List Float}
     → Leaves p answer buffer first second old new → Leaves q answer buffer first second old new
 leaves_same {answer} {buffer} {first} {second} {old} {new} e l = subst (λ (p : Part). Leaves p answer buffer first second old new) e l
 
+-- The same of the lent text that a writer was made of, and that then holds what the writer put.
+pub leaves_lent : {p : Part} {answer : StreamText} {buffer first : List Float} {second old new lent lent' : List ℕ} → old ≡ lent → lent' ≡ new
+    → Leaves p answer buffer first second old new → Leaves p answer buffer first second lent lent'
+leaves_lent {p} {answer} {buffer} {first} {second} {old} {new} {lent} {lent'} e f l =
+    subst (λ (x : List ℕ). Leaves p answer buffer first second lent x) (sym f) (subst (λ (x : List ℕ). Leaves p answer buffer first second x new) e l)
+
 -- A refusal's line where any reply has room.
-pub front-refusal : (r : Refusal) (held : Held) (first : List Float) (second : List ℕ) {old new : List ℕ} {count : ℕ} → listing_bytes ≤ length old
-    → Front old (written (Refused r) held first second (length old)) new count → Front old (refusal_line r) new count
-unfolding written fits reply_text
-front-refusal r held first second {old} h f = rw (le-leb listing_bytes (length old) h) at f
+pub front-refusal : (r : Refusal) {old new : List ℕ} {count used : ℕ} → used ≡ 0 → listing_bytes ≤ length old
+    → Front old (cond (leb listing_bytes (length old - used)) (refusal_line r) []) new count → Front old (refusal_line r) new count
+front-refusal r {old} {used = used} unused h f = rw (le-leb listing_bytes (length old - used) (omega arith)) at f

@@ -2,7 +2,7 @@
 -- reply, and "a stream longer than 65,536 bytes" is 13, before 5. Limits and lengths are written as numbers, not by the names that the definitions use. Where
 -- code and definition change together, the rows hold the definition, at these numbers alone. Rests on the definitions of `StreamText`.
 use Rattle.std.specs.Prelude.{ℕ, List, [], ◌∷◌, replicate}
-use Rattle.std.proofs.Math.Option.{Option, none, some}
+use Rattle.std.specs.Prelude.{Option, None, Some}
 use Rattle.refusal.specs.Table.{number_of, detail_of}
 use Rattle.refusal.specs.declared.Refusal.{Refusal}
 use Rattle.stream_text.specs.StreamText.{text_refusal}
@@ -17,8 +17,8 @@ abbrev pub row : ℕ → ℕ → List ℕ → Row
 row stream room refused = record { stream = stream; room = room; refused = refused }
 
 unfoldable pub told : Option Refusal → List ℕ
-told none = []
-told (some r) = number_of r ∷ detail_of r ∷ []
+told None = []
+told (Some r) = number_of r ∷ detail_of r ∷ []
 
 -- Of streams of nothing but Solve; and as the rows say.
 unfoldable pub all_refused : List Row → List (List ℕ)

@@ -1,7 +1,7 @@
 -- A stream obeyed from an offset on, command after command, with what it prints put into lent text of so many bytes, as far as the text surely
 -- holds it. Rests on one call of the session, and on the lines of `listing`.
 use Rattle.std.specs.Prelude.{ℕ, zero, suc, ◌-◌, ◌≡◌, ◌&&◌, cond, List, [], ◌++◌, length, leb, ltb, Float}
-use Rattle.std.proofs.Math.Option.{Option, none, some}
+use Rattle.std.specs.Prelude.{Option, None, Some}
 use Rattle.refusal.specs.declared.Refusal.{Refusal}
 use Rattle.refusal.specs.declared.Refusal.TheVariants.{TooLong, WrongLength}
 use Rattle.inputs.specs.Inputs.{checked_of}
@@ -38,15 +38,15 @@ part_within (suc most) t stream at room =
 -- enough calls.
 unfoldable pub part_from : State → List ℕ → ℕ → ℕ → Part
 part_from t stream at room =
-    elim (call_refusal t stream at) [ some r ↦ part t (length stream) (refusal_line r) | none ↦ part_within (length stream) t stream at room ]
+    elim (call_refusal t stream at) [ Some r ↦ part t (length stream) (refusal_line r) | None ↦ part_within (length stream) t stream at room ]
 
 -- Text that may not hold every reply is refused before anything is obeyed: with 5, as an answer that is too short, behind 13.
 unfoldable pub text_refusal : List ℕ → ℕ → Option Refusal
-text_refusal stream room = cond (leb listing_bytes room) none (some (cond (ltb max_stream (length stream)) TooLong WrongLength))
+text_refusal stream room = cond (leb listing_bytes room) None (Some (cond (ltb max_stream (length stream)) TooLong WrongLength))
 
 -- "5, 10, 11 and 13 end the stream: the next offset is then its length."
 unfoldable pub part_in : State → List ℕ → ℕ → ℕ → Part
-part_in t stream at room = elim (text_refusal stream room) [ some r ↦ part t (length stream) [] | none ↦ part_from t stream at room ]
+part_in t stream at room = elim (text_refusal stream room) [ Some r ↦ part t (length stream) [] | None ↦ part_from t stream at room ]
 
 -- The code's answer, and the memory lent to it, are those of a part: its text stands at the front of `new`, and `old` beyond it.
 pub record Leaves (p : Part) (answer : StreamText) (buffer first : List Float) (second old new : List ℕ) : Type 0 where

@@ -1,46 +1,27 @@
 // A whole stream obeyed, command after command, with the text that it prints in lent memory.
 #![tactic(auto)]
 
-ghost use Rattle.std.specs.Prelude.{◌-◌, ◌≤◌, ◌≡◌, cond, length, ltb};
-ghost use Rattle.std.proofs.Math.Option.{none};
-ghost use Rattle.refusal.specs.declared.Refusal.TheVariants.{TooLong, WrongLength};
-ghost use Rattle.session_commands.specs.Obeyed.{state};
-ghost use Rattle.session.specs.Call.{max_stream, call_refusal};
-ghost use Rattle.listing.specs.Listing.{listing_bytes, written};
-ghost use Rattle.putting.specs.Inner.Putting.{Put};
-ghost use Rattle.inputs.specs.declared.Checked.TheVariants.{Passed};
+ghost use Rattle.std.specs.Prelude.{◌≡◌, None, length};
+ghost use Rattle.session.specs.Call.{call_refusal};
+ghost use Rattle.session_commands.specs.Inner.Lent.{state_in};
+ghost use Rattle.placing.specs.Inner.Lent.{SameAnswers};
 ghost use Rattle.stream_text.specs.StreamText.{part_within, Leaves, ObeyedInto};
 
-use inputs::Checked;
-use listing::{LISTING_BYTES, write_reply};
+use listing::{LISTING_BYTES, write_refusal, write_reply};
+use placing::answer::LentAnswers;
+use putting::Writer;
 use refusal::Refusal;
 use session::commands::obey_command;
-use session::{MAX_STREAM, check_call};
-use session_commands::Reply;
-use session_record::{Held, Session, held_of, session_of};
+use session::{check_call, wrong_length};
+use session_record::{Held, Session};
 
 // The session after the commands obeyed, whether the text was refused, the offset of the next command, and the bytes of the text in use.
 #[derive(Clone, Copy)]
 pub struct StreamText {
     pub session: Session,
-    pub refused: Checked,
+    pub refused: Result<(), Refusal>,
     pub next: usize,
     pub length: usize,
-}
-
-// The text of a reply behind `used` bytes of the text; the bytes then in use.
-fn write_behind(
-    reply: Reply,
-    held: Held,
-    transforms: &[f64],
-    chains: &[u8],
-    text: &mut [u8],
-    used: usize,
-) -> usize
-    requires { used ≤ length text.old }
-    ensures { Put text.old used (written reply held transforms.now chains.now (length text.old - used)) text.new result }
-{
-    used + write_reply(reply, held, transforms, chains, &mut text[used..])
 }
 
 // Once the checks before all else have passed: command after command, while the text surely holds the next reply. The record is not checked
@@ -50,40 +31,30 @@ fn obey_commands(
     stream: &[u8],
     at: usize,
     buffer: &mut [f64],
-    transforms: &mut [f64],
-    chains: &mut [u8],
+    answers: &mut LentAnswers<'_>,
     text: &mut [u8],
 ) -> StreamText
-    requires { call_refusal (state session buffer.old transforms.old chains.old) stream.now at ≡ none }
-    ensures { (result.refused ≡ Passed) × Leaves (part_within (length stream.now) (state session buffer.old transforms.old chains.old) stream.now at (length text.old)) result buffer.new transforms.new chains.new text.old text.new }
+    requires { call_refusal (state_in session buffer.old answers.old) stream.now at ≡ None }
+    ensures passed { result.refused ≡ Ok tt }
+    ensures leaves { Leaves (part_within (length stream.now) (state_in session buffer.old answers.old) stream.now at (length text.old)) result buffer.new answers.new.transforms.now answers.new.chains.now text.old text.new }
+    ensures same { SameAnswers answers.old answers.new }
 {
+    let mut writer = Writer::new(text);
     let mut shared = session.shared;
-    let mut held = held_of(session);
+    let mut held = Held::from(session);
     let mut at = at;
-    let mut used = 0usize;
-    while (at < stream.len()) & (LISTING_BYTES <= text.len() - used) {
-        let turn = obey_command(held, stream, at, &mut shared, buffer, transforms, chains);
-        let reply = turn.reply;
+    while (at < stream.len()) & (LISTING_BYTES <= writer.room()) {
+        let turn = obey_command(held, stream, at, &mut shared, buffer, answers);
         held = turn.held;
-        used = write_behind(reply, held, transforms, chains, text, used);
+        write_reply(turn.reply, held, answers, &mut writer);
         at = turn.next;
     }
     StreamText {
-        session: session_of(held, shared),
-        refused: Checked::Passed,
+        session: held.with_summary(shared),
+        refused: Ok(()),
         next: at,
-        length: used,
+        length: writer.used,
     }
-}
-
-// What text that is too short is refused with: 13 comes before 5.
-fn short_text(end: usize) -> Refusal
-    ensures { result ≡ cond (ltb max_stream end) TooLong WrongLength }
-{
-    if MAX_STREAM < end {
-        return Refusal::TooLong;
-    }
-    Refusal::WrongLength
 }
 
 // Obeys the stream from an offset on, command after command, and puts what they print at the front of `text`, until the text may not hold the next
@@ -93,35 +64,30 @@ pub fn obey_stream(
     stream: &[u8],
     at: usize,
     buffer: &mut [f64],
-    transforms: &mut [f64],
-    chains: &mut [u8],
+    answers: &mut LentAnswers<'_>,
     text: &mut [u8],
 ) -> StreamText
-    ensures { ObeyedInto (state session buffer.old transforms.old chains.old) stream.now at result buffer.new transforms.new chains.new text.old text.new }
+    ensures obeyed { ObeyedInto (state_in session buffer.old answers.old) stream.now at result buffer.new answers.new.transforms.now answers.new.chains.now text.old text.new }
+    ensures same { SameAnswers answers.old answers.new }
 {
     let end = stream.len();
     if text.len() < LISTING_BYTES {
         return StreamText {
-            session: session,
-            refused: Checked::Refused(short_text(end)),
+            session,
+            refused: Err(wrong_length(end)),
             next: end,
             length: 0,
         };
     }
-    if let Checked::Refused(refusal) = check_call(session, stream, at, buffer, transforms, chains) {
-        let length = write_reply(
-            Reply::Refused(refusal),
-            held_of(session),
-            transforms,
-            chains,
-            text,
-        );
+    if let Err(refusal) = check_call(session, stream, at, buffer, answers) {
+        let mut writer = Writer::new(text);
+        write_refusal(refusal, &mut writer);
         return StreamText {
-            session: session,
-            refused: Checked::Passed,
+            session,
+            refused: Ok(()),
             next: end,
-            length: length,
+            length: writer.used,
         };
     }
-    obey_commands(session, stream, at, buffer, transforms, chains, text)
+    obey_commands(session, stream, at, buffer, answers, text)
 }

@@ -1,19 +1,20 @@
--- Laws of signed counts and their quotients: a word's count, by the half that it lies in; a count as a double, which is exact; and that double divided, which is the count's
--- quotient, since equal fractions round alike. Assumes nothing.
+-- Laws of signed counts and their quotients: a word's count, by the half that it lies in; a count and its divisor as doubles, which are exact; and these doubles divided, which
+-- is the count's quotient, since equal fractions round alike. Assumes nothing.
 use Prim.Native.Nat.{ℕ, zero, suc, ◌+◌, ◌-◌, ◌*◌, ◌/◌, ◌%◌, ◌^◌, ◌≤◌, ◌<◌, compare}
-use native.Mathlib.Nat.{zero-lt-suc, mul-one, mul_comm, mul_assoc, mul-pos, mul-le-mul_right, le_trans, le_of_eq, lt_of_lt_of_le, lt_of_le_of_lt, div-le_self, div-div-eq-div-mul}
+use native.Mathlib.Nat.{mul-one, mul-pos, mul-le-mul_right, le_trans, le_of_eq, lt_of_lt_of_le, lt_of_le_of_lt, div-le_self, div-div-eq-div-mul}
 use native.Mathlib.Decide.{dec_lt}
 use native.Mathlib.Omega.{arith}
 use mathlib.Core.Path.{◌≡◌, refl, sym, ap, ◌∙◌, subst}
 use mathlib.Core.Bool.{Bool, true, false, cond}
-use lib.Dec.{ltb, eqb, lit<, lit≤}
+use lib.Dec.{eqb, lit<, lit≤}
 use lib.IntN.{ℤ, pos, negsuc}
-use lib.Pow.{pow-add, pow_pos, pow_mono, pow-lt, shl_lt}
-use lib.Ieee.{Float, nan, inf, fin, binary64, up, down, minus, unlike, size, odd, units, round, neg, div, of_int}
+use lib.Pow.{pow-add, pow_mono, pow-lt, shl_lt}
+use lib.Ieee.{Float, nan, inf, fin, binary64, up, down, minus, unlike, size, odd, units, round, div, of_int}
 use lib.Ieee.Digits.{size-le}
 use lib.Ieee.Fits.{round_is, nearest-le, kept-lt, down_pos}
 use lib.Ieee.Exact.{HasValue, round_exact}
 use lib.Ieee.Scale.{round_same, finite}
+use Rattle.std.specs.Int.{w32, cast_signed}
 use borrow.Author.Tests.{lt-ltb, le-ltb, lt-leb, ne_eqb}
 use Rattle.telemetry.specs.Quotient.{count_of, quotient}
 
@@ -34,31 +35,7 @@ count_of_high word h k =
     ap (λ (b : Bool). cond b (pos word) (minus word (2 ^ 32))) (le-ltb word (2 ^ 31) h)
     ∙ ap (λ (b : Bool). cond b (pos (word - 2 ^ 32)) (negsuc (2 ^ 32 - suc word))) (lt-leb (2 ^ 32) word k)
 
--- ---- the other sign
-
-neg-odd : (q k : ℕ) → neg (odd 54 false q k 1074) ≡ odd 54 true q k 1074
-unfolding odd neg
-neg-odd zero k = refl
-neg-odd (suc q) k = refl
-
-neg-units : (q k : ℕ) → neg (units binary64 false q k) ≡ units binary64 true q k
-unfolding units neg
-neg-units q k = go (ltb (q * 2 ^ k) (2 ^ (1074 + 1024)))
-  where
-    go : (b : Bool) → neg (cond b (odd 54 false q k 1074) (inf false)) ≡ cond b (odd 54 true q k 1074) (inf true)
-    go true = neg-odd q k
-    go false = refl
-
-pub neg-round : (n d : ℕ) → neg (round binary64 false n d) ≡ round binary64 true n d
-neg-round n d = ap neg (round_is binary64 false n d) ∙ neg-units _ _ ∙ sym (round_is binary64 true n d)
-
 -- ---- a whole number as a double
-
-pub neg-whole : (word : ℕ) → word < 2 ^ 32 → neg (of_int binary64 (pos (2 ^ 32 - word))) ≡ of_int binary64 (negsuc (2 ^ 32 - suc word))
-unfolding of_int
-neg-whole word h =
-    let one_less : 2 ^ 32 - word ≡ suc (2 ^ 32 - suc word) = omega arith in
-    neg-round (2 ^ 32 - word) 1 ∙ ap (λ (n : ℕ). round binary64 true n 1) one_less
 
 whole_value : (s : Bool) (n : ℕ) → n < 2 ^ 53 → HasValue (round binary64 s n 1) s n 1
 whole_value s n h =
@@ -70,23 +47,33 @@ unlike_plus : (s : Bool) → unlike s false ≡ s
 unlike_plus true = refl
 unlike_plus false = refl
 
--- x is n with the sign s, and the divisor m * 2 ^ k: the quotient is that of n.
-divided : (x : Float) (s : Bool) (n m k : ℕ) → HasValue x s n 1 → div binary64 x (fin false (suc m) (pos k)) ≡ round binary64 s n (suc m * 2 ^ k)
-unfolding div
-divided nan s n m k v = absurd v
-divided (inf t) s n m k v = absurd v
-divided (fin t p e) s n m k v =
-    let N = suc m * 2 ^ k in
-    let above : 0 < N = mul-pos (zero-lt-suc m) (pow_pos k) in
-    ap (λ (b : Bool). cond b (cond (eqb p 0) nan (inf (unlike t false))) (round binary64 (unlike t false) (p * up e * 1) (N * down e))) (ne_eqb (suc m) 0 (omega arith))
-    ∙ ap (λ (b : Bool). round binary64 b (p * up e * 1) (N * down e)) (unlike_plus t ∙ v.0)
-    ∙ round_same binary64 s (p * up e * 1) (N * down e) n N (mul-pos above (down_pos e)) above
-    (ap (λ (x : ℕ). x * N) v.1 ∙ mul_assoc n (down e) N ∙ ap (λ (x : ℕ). n * x) (mul_comm (down e) N))
+cross : (M K n d a b : ℕ) → M * 1 ≡ n * a → K * 1 ≡ d * b → M * b * d ≡ n * (K * a)
+cross M K n d a b p q =
+    let k : M ≡ n * a = omega arith in
+    let l : K ≡ d * b = omega arith in
+    rw (k, l) (omega arith)
 
-pub div-quotient : (count : ℤ) (m k : ℕ) → size_of count ≤ 2 ^ 31 → div binary64 (of_int binary64 count) (fin false (suc m) (pos k)) ≡ quotient count (suc m * 2 ^ k)
+-- x is n with the sign s, and y is d.
+divided : (x y : Float) (s : Bool) (n d : ℕ) → HasValue x s n 1 → HasValue y false d 1 → 0 < d → div binary64 x y ≡ round binary64 s n d
+unfolding div
+divided nan y s n d v w h = absurd v
+divided (inf t) y s n d v w h = absurd v
+divided (fin t p e) nan s n d v w h = absurd w
+divided (fin t p e) (inf u) s n d v w h = absurd w
+divided (fin t p e) (fin u q g) s n d v w h =
+    let above : 0 < d * down g = mul-pos h (down_pos g) in
+    let some : q ≡ 0 → ⊥ = λ z. omega (arith, w.1, ap (λ (x : ℕ). x * up g * 1) z) in
+    let below : 0 < q * up g * down e = mul-pos (omega (arith, w.1)) (down_pos e) in
+    ap (λ (b : Bool). cond b (cond (eqb p 0) nan (inf (unlike t u))) (round binary64 (unlike t u) (p * up e * down g) (q * up g * down e))) (ne_eqb q 0 some)
+    ∙ ap (λ (b : Bool). round binary64 (unlike t b) (p * up e * down g) (q * up g * down e)) w.0
+    ∙ ap (λ (b : Bool). round binary64 b (p * up e * down g) (q * up g * down e)) (unlike_plus t ∙ v.0)
+    ∙ round_same binary64 s (p * up e * down g) (q * up g * down e) n d below h (cross (p * up e) (q * up g) n d (down e) (down g) v.1 w.1)
+
+div-quotient : (count : ℤ) (units : ℕ) → size_of count ≤ 2 ^ 31 → 0 < units → units < 2 ^ 32
+    → div binary64 (of_int binary64 count) (of_int binary64 (pos units)) ≡ quotient count units
 unfolding quotient of_int
-div-quotient (pos n) m k h = divided (round binary64 false n 1) false n m k (whole_value false n (lt_of_le_of_lt h (lit< tt)))
-div-quotient (negsuc n) m k h = divided (round binary64 true (suc n) 1) true (suc n) m k (whole_value true (suc n) (lt_of_le_of_lt h (lit< tt)))
+div-quotient (pos n) units h k l = divided (round binary64 false n 1) (round binary64 false units 1) false n units (whole_value false n (lt_of_le_of_lt h (lit< tt))) (whole_value false units (lt_of_lt_of_le l (lit≤ tt))) k
+div-quotient (negsuc n) units h k l = divided (round binary64 true (suc n) 1) (round binary64 false units 1) true (suc n) units (whole_value true (suc n) (lt_of_le_of_lt h (lit< tt))) (whole_value false units (lt_of_lt_of_le l (lit≤ tt))) k
 
 -- ---- over the range of a word
 
@@ -134,3 +121,17 @@ quotient_finite word d h = go (count_of word) (count_of_size word h)
     go : (count : ℤ) → size_of count ≤ 2 ^ 31 → finite (quotient count d) ≡ true
     go (pos n) l = finite_round false n d l
     go (negsuc n) l = finite_round true (suc n) d l
+
+-- ---- a word in units
+
+-- The count is what the word is as a signed number.
+count_of_signed : (word : ℕ) → word < 2 ^ 32 → count_of word ≡ cast_signed w32 word
+count_of_signed word h = go (dec_lt word (2 ^ 31))
+  where
+    go : Dec (word < 2 ^ 31) → count_of word ≡ cast_signed w32 word
+    go (yes low) = rw (count_of_low word low, lt-ltb word (2 ^ 31) low)
+    go (no high) = let above : 2 ^ 31 ≤ word = omega arith in rw (count_of_high word above h, le-ltb word (2 ^ 31) above)
+
+pub scaled_word : (word units : ℕ) → word < 2 ^ 32 → 0 < units → units < 2 ^ 32
+    → div binary64 (of_int binary64 (cast_signed w32 word)) (of_int binary64 (pos units)) ≡ quotient (count_of word) units
+scaled_word word units h k l = rw (← count_of_signed word h) (div-quotient (count_of word) units (count_of_size word h) k l)

@@ -2,7 +2,7 @@
 -- four rotation numbers as signed 32-bit units of 2 to the −30; low byte first, rotation in the order i, j, k, w. Turn a file of frames, in their order, into Pose commands, in
 -- metres." Rests on the commands of `command`, the poses of `arithmetic`, the table of refusals, and the numbers of `Quotient`.
 use Rattle.std.specs.Prelude.{ℕ, ◌+◌, ◌*◌, ◌/◌, ◌%◌, ◌≡◌, not, cond, List, [], ◌∷◌, length, get_or, eqb, leb, ltb, Float}
-use Rattle.std.proofs.Math.Option.{Option, none, some}
+use Rattle.std.specs.Prelude.{Option, None, Some}
 use Rattle.lists.specs.Lists.{gather}
 use Rattle.arithmetic.specs.Pose.{vec3, quaternion, pose}
 use Rattle.arithmetic.specs.declared.pose.Pose.{Pose}
@@ -12,8 +12,7 @@ use Rattle.refusal.specs.declared.Refusal.TheVariants.{WrongLength, BrokenFrame,
 use Rattle.command.specs.Command.{place, Command, edit, pose_width, half_at}
 use Rattle.command.specs.Writing.{bytes_of}
 use Rattle.telemetry.specs.Quotient.{count_of, quotient, micrometres, rotation_units}
-use Rattle.telemetry.specs.declared.Imported.{Imported}
-use Rattle.telemetry.specs.declared.Imported.TheVariants.{Refused, Frames}
+use Rattle.std.specs.Prelude.{Result, Err, Ok}
 
 abbrev pub frame_bytes : ℕ
 frame_bytes = 30
@@ -64,13 +63,16 @@ frames_refusal bytes lent =
     ∷ [])
 
 -- What the entry answers, and what stands in the lent answer afterwards: a refusal leaves it as it was.
+abbrev pub Imported : Type 0
+Imported = Result ℕ Refusal
+
 unfoldable pub imported_by : Option Refusal → ℕ → Imported
-imported_by (some r) frames = Refused r
-imported_by none frames = Frames frames
+imported_by (Some r) frames = Err r
+imported_by None frames = Ok frames
 
 unfoldable pub left_by : Option Refusal → List ℕ → List ℕ → List ℕ
-left_by (some r) lent commands = lent
-left_by none lent commands = commands
+left_by (Some r) lent commands = lent
+left_by None lent commands = commands
 
 unfoldable pub imported_of : List ℕ → List ℕ → Imported
 unfolding frames_refusal imported_by

@@ -1,40 +1,18 @@
 // The numbers of a packed frame: words of 32 bits as signed counts, in metres or as numbers of a rotation.
-ghost use Rattle.std.specs.Prelude.{◌^◌, ◌<◌, ◌≡◌, true};
-ghost use Rattle.std.specs.Float.{binary64};
-ghost use Rattle.std.specs.Float.Ieee.{of_int};
+ghost use Rattle.std.specs.Prelude.{◌<◌, ◌≡◌, true};
 ghost use Rattle.std.specs.Float.Ieee.Scale.{finite};
-ghost use Rattle.telemetry.specs.Quotient.{count_of, quotient, micrometres, rotation_units};
+ghost use Rattle.telemetry.specs.Quotient.{count_of, quotient};
 
-// From here on a word of 32 bits stands for WORDS less.
-const SIGN: u64 = 0x8000_0000;
+pub(crate) const MICROMETRES: u32 = 1000000;
 
-const WORDS: u64 = 0x1_0000_0000;
+pub(crate) const ROTATION_UNITS: u32 = 1073741824;
 
-const MICROMETRES: f64 = 1000000.0;
-
-const ROTATION_UNITS: f64 = 1073741824.0;
-
-// Exact: a double holds every whole number of at most 53 binary digits.
-fn signed(word: u64) -> f64
-    requires { word < 2 ^ 32 }
-    ensures { result ≡ of_int binary64 (count_of word) }
+// Both conversions are exact: a double holds every whole number of at most 53 binary digits.
+#[tactic(auto, using(crate::proofs::Quotient::scaled_word, crate::proofs::Quotient::quotient_finite))]
+pub(crate) fn scaled(word: u32, units: u32) -> f64
+    requires { 0 < units }
+    ensures value { result ≡ quotient (count_of word) units }
+    ensures is_finite { finite result ≡ true }
 {
-    if word < SIGN {
-        return word as f64;
-    }
-    -((WORDS - word) as f64)
-}
-
-pub(crate) fn metres(word: u64) -> f64
-    requires { word < 2 ^ 32 }
-    ensures { (result ≡ quotient (count_of word) micrometres) × (finite result ≡ true) }
-{
-    signed(word) / MICROMETRES
-}
-
-pub(crate) fn rotation_number(word: u64) -> f64
-    requires { word < 2 ^ 32 }
-    ensures { (result ≡ quotient (count_of word) rotation_units) × (finite result ≡ true) }
-{
-    signed(word) / ROTATION_UNITS
+    f64::from(word.cast_signed()) / f64::from(units)
 }

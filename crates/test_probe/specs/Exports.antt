@@ -1,6 +1,6 @@
 -- What each export answers, and what its lent answer is after it, over its full length. Rests on `Poses` and the replies of `placer`.
 use Rattle.std.specs.Prelude.{◌≡◌, ℕ, List, length, Float}
-use Rattle.std.proofs.Math.Option.{Option}
+use Rattle.std.specs.Prelude.{Option}
 use Rattle.arithmetic.specs.Pose.{flat}
 use Rattle.refusal.specs.declared.Refusal.{Refusal}
 use Rattle.extrinsics.specs.Outcome.{answered}

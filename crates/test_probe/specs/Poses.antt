@@ -1,7 +1,7 @@
 -- Lists of poses lent as floats, seven each: what is refused of them, their product, and their inverses. Rests on the poses of `arithmetic`
 -- and the table of refusals.
 use Rattle.std.specs.Prelude.{ℕ, zero, suc, ◌*◌, ◌/◌, ◌%◌, not, ◌||◌, List, [], ◌∷◌, ◌++◌, length, ◌==◌, nat_lt, Float}
-use Rattle.std.proofs.Math.Option.{Option}
+use Rattle.std.specs.Prelude.{Option}
 use mathlib.Core.List.{foldl}
 use Rattle.arithmetic.specs.Pose.{identity_pose, mul_pose, inverse_pose, flat, pose_at}
 use Rattle.arithmetic.specs.declared.pose.Pose.{Pose}

@@ -1,7 +1,7 @@
 -- Whole streams obeyed with what they print in lent text: what is answered. Rests on what a whole stream prints, in `claims_printing`, what is refused of the
 -- text, in `stream_text`, and the replies of `placer`.
 use Rattle.std.specs.Prelude.{◌≡◌, ℕ, ◌%◌, ◌^◌, List, length}
-use Rattle.std.proofs.Math.Option.{none, some}
+use Rattle.std.specs.Prelude.{None, Some}
 use Rattle.refusal.specs.declared.Refusal.{Refusal}
 use Rattle.session_commands.specs.Obeyed.{State}
 use Rattle.claims_streams.specs.Stream.{meaning}
@@ -15,5 +15,5 @@ printed_bytes t stream = length (printed (meaning t stream)) % 2 ^ 64
 
 -- The reply r, and the lent text after it. Text that is too short is refused, and left as it is.
 pub record Printed (stream old : List ℕ) (r : ℕ) (new : List ℕ) : Type 0 where
-  pub refused : (e : Refusal) → text_refusal stream (length old) ≡ some e → (r ≡ code_of e) × (new ≡ old)
-  pub counted : text_refusal stream (length old) ≡ none → r ≡ printed_bytes fresh_state stream
+  pub refused : (e : Refusal) → text_refusal stream (length old) ≡ Some e → (r ≡ code_of e) × (new ≡ old)
+  pub counted : text_refusal stream (length old) ≡ None → r ≡ printed_bytes fresh_state stream

@@ -4,31 +4,29 @@ ghost use Rattle.inputs.specs.Inputs.{checked_of};
 ghost use Rattle.stream_text.specs.StreamText.{text_refusal};
 ghost use Rattle.test_probe.specs.Poses.{poses_refusal};
 
-use inputs::Checked;
 use limits::POSE_FLOATS;
 use listing::LISTING_BYTES;
 use refusal::Refusal;
-use session::MAX_STREAM;
+use session::wrong_length;
 
 // 5: floats that are not seven for each pose, or an answer with less room than it needs.
-pub fn check_poses(floats: usize, room: usize, needed: usize) -> Checked
+#[tactic(auto, unfolding(inputs::specs::Inputs::checked_of, refusal::specs::Table::refuse_if, crate::specs::Poses::poses_refusal))]
+pub fn check_poses(floats: usize, room: usize, needed: usize) -> Result<(), Refusal>
     ensures { result ≡ checked_of (poses_refusal floats room needed) }
 {
     if (floats % POSE_FLOATS != 0) | (room < needed) {
-        return Checked::Refused(Refusal::WrongLength);
+        return Err(Refusal::WrongLength);
     }
-    Checked::Passed
+    Ok(())
 }
 
 // 5: text that may not hold every reply; 13 comes before it.
-pub fn check_text(stream: &[u8], room: usize) -> Checked
+#[tactic(auto, unfolding(inputs::specs::Inputs::checked_of, stream_text::specs::StreamText::text_refusal))]
+pub fn check_text(stream: &[u8], room: usize) -> Result<(), Refusal>
     ensures { result ≡ checked_of (text_refusal stream.now room) }
 {
-    if LISTING_BYTES <= room {
-        return Checked::Passed;
+    if room < LISTING_BYTES {
+        return Err(wrong_length(stream.len()));
     }
-    if MAX_STREAM < stream.len() {
-        return Checked::Refused(Refusal::TooLong);
-    }
-    Checked::Refused(Refusal::WrongLength)
+    Ok(())
 }

@@ -13,17 +13,18 @@ mod streams;
 use crate::lengths::{check_poses, check_text};
 use crate::poses::{product_of, write_inverses};
 use crate::streams::{print_by_commands, print_by_parts};
-use inputs::Checked;
 use placer::code::refusal_code;
+use placing::answer::LentAnswers;
 use session::{FIRST_FLOATS, SECOND_BYTES};
 use session_record::BUFFER_FLOATS;
 
 // The product of poses, in order, into the first seven floats of `product`; of no poses the identity. Refuses 5.
+#[tactic(auto, using(crate::proofs::Replies::room_holds))]
 #[unsafe(no_mangle)]
 pub extern "C" fn probe_product(poses: &[f64], product: &mut [f64]) -> u64
     ensures { Multiplied poses.now product.old result product.new }
 {
-    if let Checked::Refused(refusal) = check_poses(poses.len(), product.len(), 7) {
+    if let Err(refusal) = check_poses(poses.len(), product.len(), 7) {
         return refusal_code(refusal);
     }
     product_of(poses).write(product);
@@ -31,11 +32,12 @@ pub extern "C" fn probe_product(poses: &[f64], product: &mut [f64]) -> u64
 }
 
 // The inverse of each pose, each at its own place in `inverses`. Refuses 5.
+#[tactic(auto, using(crate::proofs::Replies::room_holds))]
 #[unsafe(no_mangle)]
 pub extern "C" fn probe_inverses(poses: &[f64], inverses: &mut [f64]) -> u64
     ensures { Inverted poses.now inverses.old result inverses.new }
 {
-    if let Checked::Refused(refusal) = check_poses(poses.len(), inverses.len(), poses.len()) {
+    if let Err(refusal) = check_poses(poses.len(), inverses.len(), poses.len()) {
         return refusal_code(refusal);
     }
     write_inverses(poses, inverses);
@@ -45,29 +47,40 @@ pub extern "C" fn probe_inverses(poses: &[f64], inverses: &mut [f64]) -> u64
 // A whole stream obeyed from a fresh session on, by calls of the whole-stream entry that are each lent the same text, until the next offset is the stream's
 // end. Answers how many bytes they print in all, modulo 2^64; the text then begins with what the last call printed. Refuses 5 and 13, for text that may not
 // hold every reply, which is then left as it is.
+#[tactic(auto, using(crate::proofs::Replies::printed_counted, crate::proofs::Replies::text_holds))]
 #[unsafe(no_mangle)]
 pub extern "C" fn probe_stream(stream: &[u8], text: &mut [u8]) -> u64
     ensures { Printed stream.now text.old result text.new }
 {
-    if let Checked::Refused(refusal) = check_text(stream, text.len()) {
+    if let Err(refusal) = check_text(stream, text.len()) {
         return refusal_code(refusal);
     }
     let mut buffer = [0.0f64; BUFFER_FLOATS];
     let mut transforms = [0.0f64; FIRST_FLOATS];
     let mut chains = [0u8; SECOND_BYTES];
-    print_by_parts(stream, &mut buffer, &mut transforms, &mut chains, text)
+    let mut answers = LentAnswers {
+        transforms: &mut transforms,
+        chains: &mut chains,
+    };
+    print_by_parts(stream, &mut buffer, &mut answers, text)
 }
 
 // The same by calls for one command each, which all check the record.
+// Kept: beside `probe_stream`, since each calls another function of the library: a closure over lent memory in its place would be longer.
+#[tactic(auto, using(crate::proofs::Replies::printed_counted, crate::proofs::Replies::text_holds))]
 #[unsafe(no_mangle)]
 pub extern "C" fn probe_calls(stream: &[u8], text: &mut [u8]) -> u64
     ensures { Printed stream.now text.old result text.new }
 {
-    if let Checked::Refused(refusal) = check_text(stream, text.len()) {
+    if let Err(refusal) = check_text(stream, text.len()) {
         return refusal_code(refusal);
     }
     let mut buffer = [0.0f64; BUFFER_FLOATS];
     let mut transforms = [0.0f64; FIRST_FLOATS];
     let mut chains = [0u8; SECOND_BYTES];
-    print_by_commands(stream, &mut buffer, &mut transforms, &mut chains, text)
+    let mut answers = LentAnswers {
+        transforms: &mut transforms,
+        chains: &mut chains,
+    };
+    print_by_commands(stream, &mut buffer, &mut answers, text)
 }

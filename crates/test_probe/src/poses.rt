@@ -11,10 +11,8 @@ pub fn product_of(poses: &[f64]) -> Pose
 {
     let n = poses.len() / POSE_FLOATS;
     let mut product = Pose::identity();
-    let mut i = 0;
-    while i < n {
-        product = product.product(Pose::read(poses, POSE_FLOATS * i));
-        i += 1;
+    for i in 0..n {
+        product = product * Pose::read(poses, POSE_FLOATS * i);
     }
     product
 }
@@ -25,11 +23,9 @@ pub fn write_inverses(poses: &[f64], inverses: &mut [f64])
     ensures { inverses.new ≡ inverses_of poses.now ++ drop (7 * (length poses.now / 7)) inverses.old }
 {
     let n = poses.len() / POSE_FLOATS;
-    let mut i = 0;
-    while i < n {
+    for i in 0..n {
         let at = POSE_FLOATS * i;
         let inverse = Pose::read(poses, at).inverse();
         inverse.write(&mut inverses[at..]);
-        i += 1;
     }
 }

@@ -3,12 +3,14 @@
 // calibration-rs, commit 1c21d7f0aa.
 #![tactic(auto)]
 
-ghost use Rattle.std.specs.Prelude.{◌<◌};
+ghost use Rattle.std.specs.Prelude.{◌≤◌, IfSome, length};
 
 use listing::{LISTING_BYTES, write_reply};
+use placing::answer::LentAnswers;
+use putting::Writer;
 use root::sqrt;
 use session::{FIRST_FLOATS, SECOND_BYTES, Step};
-use session_record::{BUFFER_FLOATS, held_of};
+use session_record::{BUFFER_FLOATS, Held};
 use std::io;
 use std::io::Read;
 
@@ -35,35 +37,22 @@ fn main(rt: HostRuntime) -> io::Result<()> {
     let mut header = [0u8; HEADER_BYTES];
     let _whole = input.read_exact(&mut header);
     rt.write_all(&header)?;
-    let roots = next_word(&mut input);
+    let roots = next_word(&mut input).unwrap_or(0);
     replay_roots(&rt, &mut input, roots)?;
     let mut stream = [0u8; MOST_STREAM];
     replay_streams(&rt, &mut input, &mut stream)
 }
 
-// The next number of the sample, 0 where there is none.
-fn next_word<R: Read>(input: &mut R) -> u64 {
+// The next number of the sample, where there is one.
+fn next_word<R: Read>(input: &mut R) -> Option<u64> {
     let mut bytes = [0u8; WORD_BYTES];
-    let _whole = input.read_exact(&mut bytes);
-    half(bytes[0], bytes[1], bytes[2], bytes[3])
-        + 4294967296 * half(bytes[4], bytes[5], bytes[6], bytes[7])
-}
-
-fn half(a: u8, b: u8, c: u8, d: u8) -> u64
-    ensures { result < 4294967296 }
-{
-    wide(a) + 256 * wide(b) + 65536 * wide(c) + 16777216 * wide(d)
-}
-
-fn wide(byte: u8) -> u64
-    ensures { result < 256 }
-{
-    byte as u64
+    input.read_exact(&mut bytes).ok()?;
+    Some(u64::from_le_bytes(bytes))
 }
 
 fn replay_roots<P: Print, R: Read>(rt: &P, input: &mut R, count: u64) -> io::Result<()> {
     for _ in 0..count {
-        let word = next_word(input);
+        let word = next_word(input).unwrap_or(0);
         let root = root_of_pattern(word);
         println!(rt; "{word:016x} {root:016x}")?;
     }
@@ -78,63 +67,49 @@ fn root_of_pattern(word: u64) -> u64 {
 }
 
 fn pattern_of(x: f64) -> u64 {
-    if x == x { f64::to_bits(x) } else { NAN }
+    if x.is_nan() { NAN } else { f64::to_bits(x) }
 }
 
 fn replay_streams<P: Print, R: Read>(rt: &P, input: &mut R, memory: &mut [u8]) -> io::Result<()> {
     for _ in 0..MOST_TURNS {
-        if !replay_stream(rt, input, memory)? {
+        let Some(length) = next_stream(input, memory) else {
             return Ok(());
-        }
+        };
+        println!(rt; "stream of {length}")?;
+        replay_stream(rt, &memory[..length])?;
     }
     Ok(())
 }
 
-// The next stream of the sample, read into `memory`; false where there is none.
-fn replay_stream<P: Print, R: Read>(rt: &P, input: &mut R, memory: &mut [u8]) -> io::Result<bool> {
-    let word = next_word(input);
-    if word == 0 {
-        return Ok(false);
+// The length of the next stream of the sample, which then stands at the front of the memory; none where there is no more, or where it is longer.
+fn next_stream<R: Read>(input: &mut R, memory: &mut [u8]) -> Option<usize>
+    ensures { IfSome result (λ bytes. bytes ≤ length memory.new) }
+{
+    let length = next_word(input)? as usize;
+    if (length == 0) | (memory.len() < length) {
+        return None;
     }
-    let length = word as usize;
-    if memory.len() < length {
-        return Ok(false);
-    }
-    if input.read_exact(&mut memory[..length]).is_err() {
-        return Ok(false);
-    }
+    input.read_exact(&mut memory[..length]).ok()?;
+    Some(length)
+}
+
+// Calls until the next offset is not below the stream's length, in memory of their own.
+fn replay_stream<P: Print>(rt: &P, stream: &[u8]) -> io::Result<()> {
     let mut buffer = [0.0f64; BUFFER_FLOATS];
     let mut transforms = [0.0f64; FIRST_FLOATS];
     let mut chains = [0u8; SECOND_BYTES];
     let mut text = [0u8; LISTING_BYTES];
-    println!(rt; "stream of {word}")?;
-    replay_calls(
-        rt,
-        &memory[..length],
-        &mut buffer,
-        &mut transforms,
-        &mut chains,
-        &mut text,
-    )?;
-    Ok(true)
-}
-
-// Calls until the next offset is not below the stream's length.
-fn replay_calls<P: Print>(
-    rt: &P,
-    stream: &[u8],
-    buffer: &mut [f64],
-    transforms: &mut [f64],
-    chains: &mut [u8],
-    text: &mut [u8],
-) -> io::Result<()> {
+    let mut answers = LentAnswers {
+        transforms: &mut transforms,
+        chains: &mut chains,
+    };
     let mut session = session_record::fresh();
     let mut at = 0usize;
     for _ in 0..MOST_TURNS {
-        let step = session::obey(session, stream, at, buffer, transforms, chains);
+        let step = session::obey(session, stream, at, &mut buffer, &mut answers);
         session = step.session;
         at = step.next;
-        print_step(rt, step, transforms, chains, text)?;
+        print_step(rt, step, &answers, &mut text)?;
         if stream.len() <= at {
             return Ok(());
         }
@@ -146,12 +121,10 @@ fn replay_calls<P: Print>(
 fn print_step<P: Print>(
     rt: &P,
     step: Step,
-    transforms: &[f64],
-    chains: &[u8],
+    answers: &LentAnswers<'_>,
     text: &mut [u8],
 ) -> io::Result<()> {
-    let reply = step.reply;
-    let held = held_of(step.session);
-    let length = write_reply(reply, held, transforms, chains, text);
-    rt.write_all(&text[..length])
+    let mut lines = Writer::new(text);
+    write_reply(step.reply, Held::from(step.session), answers, &mut lines);
+    rt.write_all(lines.written())
 }

@@ -3,13 +3,15 @@
 // the record with its summary, and what the query answers for the cameras.
 #![tactic(auto)]
 
-ghost use Rattle.std.specs.Prelude.{◌+◌, ◌≤◌, ◌<◌, length};
+ghost use Rattle.std.specs.Prelude.{◌≤◌, IfSome, length};
 
 use listing::{LISTING_BYTES, write_reply};
+use placing::answer::LentAnswers;
+use putting::Writer;
 use session::Step;
-use session_commands::Reply;
-use session_record::{Session, held_of};
-use shared_query::{Shared, shared_views};
+use session_commands::Done;
+use session_record::{Held, Session};
+use shared_query::shared_views;
 use std::io;
 use std::io::Read;
 
@@ -17,7 +19,11 @@ use std::io::Read;
 // of buffer, first and second answer; the stream's length; the two cameras to ask for. The summary, a byte an entry, and the stream follow.
 const LABEL_BYTES: usize = 64;
 
-const HEADER_BYTES: usize = 208;
+const WORD_BYTES: usize = 8;
+
+const HEADER_WORDS: usize = 26;
+
+const HEADER_BYTES: usize = HEADER_WORDS * WORD_BYTES;
 
 const SUMMARY_BYTES: usize = 256;
 
@@ -32,7 +38,7 @@ const MOST_FIRST: usize = 600;
 
 const MOST_SECOND: usize = 64;
 
-#[derive(Drop)]
+#[derive(Clone, Copy)]
 struct Case {
     session: Session,
     at: usize,
@@ -51,112 +57,86 @@ fn main(rt: HostRuntime) -> io::Result<()> {
 
 fn run_cases<P: Print, R: Read>(rt: &P, input: &mut R, memory: &mut [u8]) -> io::Result<()> {
     for _ in 0..MOST_CASES {
-        if !run_case(rt, input, memory)? {
+        let Some(label) = next_label(input) else {
+            return Ok(());
+        };
+        rt.write_all(&label)?;
+        let Some(case) = next_case(input) else {
+            return Ok(());
+        };
+        let Some(length) = next_stream(input, case, memory) else {
+            return Ok(());
+        };
+        if run_case(rt, case, &memory[..length])?.is_none() {
             return Ok(());
         }
     }
     Ok(())
 }
 
-// The next case of the input, its stream read into `memory`; false where there is none, or where it asks for more than there is.
-fn run_case<P: Print, R: Read>(rt: &P, input: &mut R, memory: &mut [u8]) -> io::Result<bool> {
+fn next_label<R: Read>(input: &mut R) -> Option<[u8; LABEL_BYTES]> {
     let mut label = [0u8; LABEL_BYTES];
+    input.read_exact(&mut label).ok()?;
+    Some(label)
+}
+
+fn next_case<R: Read>(input: &mut R) -> Option<Case> {
     let mut header = [0u8; HEADER_BYTES];
     let mut summary = [0u8; SUMMARY_BYTES];
-    if input.read_exact(&mut label).is_err() {
-        return Ok(false);
+    input.read_exact(&mut header).ok()?;
+    input.read_exact(&mut summary).ok()?;
+    Some(read_case(&header, summary))
+}
+
+// The length of the case's stream, which then stands at the front of the memory; none where it is longer or not there whole.
+fn next_stream<R: Read>(input: &mut R, case: Case, memory: &mut [u8]) -> Option<usize>
+    ensures { IfSome result (λ bytes. bytes ≤ length memory.new) }
+{
+    if memory.len() < case.length {
+        return None;
     }
-    rt.write_all(&label)?;
-    if input.read_exact(&mut header).is_err() {
-        return Ok(false);
-    }
-    if input.read_exact(&mut summary).is_err() {
-        return Ok(false);
-    }
-    let case = read_case(&header, summary);
-    let length = case.length;
-    if length > memory.len() {
-        return Ok(false);
-    }
-    if input.read_exact(&mut memory[..length]).is_err() {
-        return Ok(false);
-    }
+    input.read_exact(&mut memory[..case.length]).ok()?;
+    Some(case.length)
+}
+
+// A case in as much memory as it asks for; none where it asks for more than there is.
+fn run_case<P: Print>(rt: &P, case: Case, stream: &[u8]) -> io::Result<Option<()>> {
     let mut buffer = [0.0f64; MOST_BUFFER];
     let mut transforms = [0.0f64; MOST_FIRST];
     let mut chains = [0u8; MOST_SECOND];
-    let mut text = [0u8; LISTING_BYTES];
-    run_lent(
-        rt,
-        case,
-        &memory[..length],
-        &mut buffer,
-        &mut transforms,
-        &mut chains,
-        &mut text,
-    )
-}
-
-// A case in as much of the memory as it asks for.
-fn run_lent<P: Print>(
-    rt: &P,
-    case: Case,
-    stream: &[u8],
-    buffer: &mut [f64],
-    transforms: &mut [f64],
-    chains: &mut [u8],
-    text: &mut [u8],
-) -> io::Result<bool> {
-    let floats = case.buffer;
-    let first = case.first;
-    let second = case.second;
-    if floats > buffer.len() {
-        return Ok(false);
+    if (MOST_BUFFER < case.buffer) | (MOST_FIRST < case.first) | (MOST_SECOND < case.second) {
+        return Ok(None);
     }
-    if first > transforms.len() {
-        return Ok(false);
-    }
-    if second > chains.len() {
-        return Ok(false);
-    }
-    let after = run_calls(
-        rt,
-        case.session,
-        stream,
-        case.at,
-        &mut buffer[..floats],
-        &mut transforms[..first],
-        &mut chains[..second],
-        text,
-    )?;
+    let mut answers = LentAnswers {
+        transforms: &mut transforms[..case.first],
+        chains: &mut chains[..case.second],
+    };
+    let after = run_calls(rt, case, stream, &mut buffer[..case.buffer], &mut answers)?;
     print_record(rt, &after)?;
     print_summary(rt, &after)?;
     print_asked(rt, after, case.asked, case.with)?;
-    Ok(true)
+    Ok(Some(()))
 }
 
 // Calls from an offset on until the next is not below the stream's length; the record after them.
 fn run_calls<P: Print>(
     rt: &P,
-    start: Session,
+    case: Case,
     stream: &[u8],
-    from: usize,
     buffer: &mut [f64],
-    transforms: &mut [f64],
-    chains: &mut [u8],
-    text: &mut [u8],
+    answers: &mut LentAnswers<'_>,
 ) -> io::Result<Session> {
-    let mut session = start;
-    let mut at = from;
-    let mut left = stream.len() + 1;
-    while left > 0 {
-        let step = session::obey(session, stream, at, buffer, transforms, chains);
+    let mut text = [0u8; LISTING_BYTES];
+    let mut session = case.session;
+    let mut at = case.at;
+    for _ in 0..=stream.len() {
+        let step = session::obey(session, stream, at, buffer, answers);
         session = step.session;
         at = step.next;
-        print_step(rt, step, transforms, chains, text)?;
-        if at >= stream.len() {
+        print_step(rt, step, answers, &mut text)?;
+        if stream.len() <= at {
             return Ok(session);
         }
-        left -= 1;
     }
     Ok(session)
 }
@@ -164,34 +144,27 @@ fn run_calls<P: Print>(
 fn print_step<P: Print>(
     rt: &P,
     step: Step,
-    transforms: &[f64],
-    chains: &[u8],
+    answers: &LentAnswers<'_>,
     text: &mut [u8],
 ) -> io::Result<()> {
-    print!(rt; "{}", step.next)?;
-    let reply = step.reply;
-    let held = held_of(step.session);
-    let (word, has_lines) = match &reply {
-        Reply::End => (" end\n", false),
-        Reply::Accepted => (" accepted\n", false),
-        Reply::Solved => (" ", true),
-        Reply::Refused(_) => (" ", true),
+    let word = match step.reply {
+        Ok(Done::End) => " end\n",
+        Ok(Done::Accepted) => " accepted\n",
+        Ok(Done::Solved) | Err(_) => " ",
     };
-    print!(rt; "{word}")?;
-    let length = write_reply(reply, held, transforms, chains, text);
-    if has_lines {
-        rt.write_all(&text[..length])?;
-    }
-    Ok(())
+    print!(rt; "{}{word}", step.next)?;
+    let mut lines = Writer::new(text);
+    write_reply(step.reply, Held::from(step.session), answers, &mut lines);
+    rt.write_all(lines.written())
 }
 
 fn print_record<P: Print>(rt: &P, session: &Session) -> io::Result<()> {
-    print!(rt; "record")?;
-    print_field(rt, session.views as u64)?;
-    print_field(rt, session.cameras as u64)?;
-    print_field(rt, session.reference as u64)?;
+    print!(rt;
+        "record {:x} {:x} {:x}",
+        session.views, session.cameras, session.reference
+    )?;
     for mask in session.masks {
-        print_field(rt, mask)?;
+        print!(rt; " {mask:x}")?;
     }
     println!(rt)
 }
@@ -199,85 +172,45 @@ fn print_record<P: Print>(rt: &P, session: &Session) -> io::Result<()> {
 fn print_summary<P: Print>(rt: &P, session: &Session) -> io::Result<()> {
     print!(rt; "shared")?;
     for count in session.shared {
-        print_field(rt, count as u64)?;
+        print!(rt; " {count:x}")?;
     }
     println!(rt)
 }
 
 fn print_asked<P: Print>(rt: &P, session: Session, asked: u8, with: u8) -> io::Result<()> {
     print!(rt; "asked {asked} {with}: ")?;
-    print_shared(rt, shared_views(session, asked, with))?;
-    println!(rt)
-}
-
-fn print_shared<P: Print>(rt: &P, shared: Shared) -> io::Result<()> {
-    match shared {
-        Shared::Count(count) => print!(rt; "{count}"),
-        Shared::Refused(refusal) => print!(rt; "no {} {}", refusal.number(), refusal.detail()),
+    match shared_views(session, asked, with) {
+        Ok(count) => println!(rt; "{count}"),
+        Err(refusal) => println!(rt; "{refusal}"),
     }
 }
 
-fn print_field<P: Print>(rt: &P, n: u64) -> io::Result<()> {
-    print!(rt; " {n:x}")
-}
-
-fn read_case(header: &[u8], summary: [u8; SUMMARY_BYTES]) -> Case
-    requires { 208 ≤ length header.now }
-{
-    let session = Session {
-        masks: read_masks(header),
-        views: low_byte(read_word(header, 128)),
-        cameras: low_byte(read_word(header, 136)),
-        reference: low_byte(read_word(header, 144)),
-        shared: summary,
-    };
-    Case {
-        session: session,
-        at: read_word(header, 152) as usize,
-        buffer: read_word(header, 160) as usize,
-        first: read_word(header, 168) as usize,
-        second: read_word(header, 176) as usize,
-        length: read_word(header, 184) as usize,
-        asked: low_byte(read_word(header, 192)),
-        with: low_byte(read_word(header, 200)),
+fn read_case(header: &[u8; HEADER_BYTES], summary: [u8; SUMMARY_BYTES]) -> Case {
+    let (words, _) = header.as_chunks::<WORD_BYTES>();
+    let mut numbers = [0u64; HEADER_WORDS];
+    for (number, word) in numbers.iter_mut().zip(words) {
+        *number = u64::from_le_bytes(*word);
     }
-}
-
-fn read_masks(header: &[u8]) -> [u64; 16]
-    requires { 128 ≤ length header.now }
-{
     let mut masks = [0u64; 16];
-    let mut c = 0usize;
-    while c < 16 {
-        masks[c] = read_word(header, 8 * c);
-        c += 1;
+    masks.copy_from_slice(&numbers[..16]);
+    Case {
+        session: Session {
+            masks,
+            views: low_byte(numbers[16]),
+            cameras: low_byte(numbers[17]),
+            reference: low_byte(numbers[18]),
+            shared: summary,
+        },
+        at: numbers[19] as usize,
+        buffer: numbers[20] as usize,
+        first: numbers[21] as usize,
+        second: numbers[22] as usize,
+        length: numbers[23] as usize,
+        asked: low_byte(numbers[24]),
+        with: low_byte(numbers[25]),
     }
-    masks
 }
 
 fn low_byte(word: u64) -> u8 {
     (word % 256) as u8
-}
-
-// Eight bytes from `at`, low byte first.
-fn read_word(bytes: &[u8], at: usize) -> u64
-    requires { at + 8 ≤ length bytes.now }
-{
-    read_half(bytes, at) + 4294967296 * read_half(bytes, at + 4)
-}
-
-fn read_half(bytes: &[u8], at: usize) -> u64
-    requires { at + 4 ≤ length bytes.now }
-    ensures { result < 4294967296 }
-{
-    wide(bytes[at])
-        + 256 * wide(bytes[at + 1])
-        + 65536 * wide(bytes[at + 2])
-        + 16777216 * wide(bytes[at + 3])
-}
-
-fn wide(byte: u8) -> u64
-    ensures { result < 256 }
-{
-    byte as u64
 }

@@ -1,12 +1,11 @@
--- `layer_cameras` meets its contract. The loop's invariant: the search stands at its layer, whose number is no more than there are cameras.
--- The measure is how far below that the number is. Assumes nothing.
-use Prim.Native.Nat.{◌-◌, ◌≤◌}
-use Rattle.chains.specs.Masks.{shared_by}
+-- `layer_cameras` meets its contract. The loop's invariant: the search stands at its layer. The measure is how far its number is below that of
+-- the cameras. Assumes nothing.
+use Prim.Native.Nat.{◌-◌}
 use Rattle.chains.specs.Inner.Search.{Reached}
 use Rattle.chains.proofs.layer_cameras.Given as goal
 
-abbrev pub invariant-loop-search : goal.invariant-loop-search
-invariant-loop-search l = (l.search.number ≤ l.cameras) × Reached l.cameras (shared_by l.masks) l.least l.reference l.search
+abbrev pub invariant-loop-network : goal.invariant-loop-network
+invariant-loop-network l = Reached l.network l.search
 
-abbrev pub decreases-loop-search : goal.decreases-loop-search
-decreases-loop-search l = l.cameras - l.search.number
+abbrev pub decreases-loop-network : goal.decreases-loop-network
+decreases-loop-network l = l.network.cameras - l.search.number

@@ -5,7 +5,7 @@ use native.Mathlib.Omega.{arith}
 use mathlib.Core.Path.{◌≡◌, refl, sym, ap, ◌∙◌}
 use mathlib.Core.Logic.{◌≢◌}
 use mathlib.Core.Bool.{true, false, ◌&&◌}
-use mathlib.Core.Option.{Option, none, some}
+use Rattle.std.specs.Prelude.{Option, None, Some}
 use mathlib.Core.List.{List}
 use lib.ListN.{length, get_or, set}
 use lib.Seq.{set_out, get_or-set_same, get_or-set_other}
@@ -58,5 +58,5 @@ set_elsewhere masks view camera m inside others v c other = go (ℕ_discrete c c
 pub holds_same : (masks masks' : List ℕ) (buffer buffer' : List Float) (v c : ℕ) (o : Option Pose)
     → in_mask (get_or masks' c 0) v ≡ in_mask (get_or masks c 0) v → pose_at buffer' (cell_start v c) ≡ pose_at buffer (cell_start v c)
     → HoldsCell masks buffer v c o → HoldsCell masks' buffer' v c o
-holds_same masks masks' buffer buffer' v c none bit floats h = bit ∙ h
-holds_same masks masks' buffer buffer' v c (some p) bit floats (set, same) = (bit ∙ set, floats ∙ same)
+holds_same masks masks' buffer buffer' v c None bit floats h = bit ∙ h
+holds_same masks masks' buffer buffer' v c (Some p) bit floats (set, same) = (bit ∙ set, floats ∙ same)

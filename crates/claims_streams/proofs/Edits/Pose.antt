@@ -6,7 +6,7 @@ use native.Mathlib.Omega.{arith}
 use mathlib.Core.Path.{◌≡◌, refl, sym, ap, subst, ◌∙◌}
 use mathlib.Core.Logic.{inr, ⊎_elim}
 use mathlib.Core.Bool.{Bool, true, false, not, ◌||◌, cond, true≢false}
-use mathlib.Core.Option.{Option, none, some}
+use Rattle.std.specs.Prelude.{Option, None, Some}
 use mathlib.Core.List.{List, [], ◌∷◌}
 use lib.ListN.{length, get_or, set, length-append, length-take, length-drop, length-set}
 use lib.Seq.{get_or-set_same, get_or-set_other}
@@ -59,7 +59,7 @@ module _ (s : Session) (view camera : ℕ) (p : Pose) where
   unfolding edit_refusal
   place_checks_is = refl
 
-  pub place-accepted : edit_refusal (held_of s) (place view camera p) ≡ none → Placeable s view camera p
+  pub place-accepted : edit_refusal (held_of s) (place view camera p) ≡ None → Placeable s view camera p
   place-accepted e =
       let (_, (outside, (held, (not-Finite, _)))) = first_of_none_all place_checks (sym place_checks_is ∙ e) in
       let (view-outside, camera-outside) = or-false _ _ (refuse_if-none _ _ outside) in
@@ -70,7 +70,7 @@ module _ (s : Session) (view camera : ℕ) (p : Pose) where
         all_finite = not-false _ (refuse_if-none _ _ not-Finite);
       }
 
-  pub accepts_place : Placeable s view camera p → edit_refusal (held_of s) (place view camera p) ≡ none
+  pub accepts_place : Placeable s view camera p → edit_refusal (held_of s) (place view camera p) ≡ None
   accepts_place h =
       place_checks_is
       ∙ first_of_all_none place_checks (
@@ -88,7 +88,7 @@ module _ (s : Session) (view camera : ℕ) (p : Pose) where
       inside = rw (lt-leb s.views view h.view_inside) (lt-leb s.cameras camera h.camera_inside)
 
   -- A sound record that accepts it has sizes, and so the cell is within the limits.
-  module _ (sound : Sound s) (e : edit_refusal (held_of s) (place view camera p) ≡ none) where
+  module _ (sound : Sound s) (e : edit_refusal (held_of s) (place view camera p) ≡ None) where
     sizes : Sizes s.views s.cameras s.reference
     sizes = has_sizes s sound (omega (arith, (place-accepted e).view_inside))
 
@@ -122,7 +122,7 @@ module _ (view camera : ℕ) (p : Pose) where
 
   -- The cell that it names, or another.
   data Named (v c : ℕ) : Type 0 where
-    this_cell : v ≡ view → c ≡ camera → writes change v c ≡ true → ((o : Option Pose) → cell_after change v c o ≡ some p) → Named v c
+    this_cell : v ≡ view → c ≡ camera → writes change v c ≡ true → ((o : Option Pose) → cell_after change v c o ≡ Some p) → Named v c
     another : (v ≡ view → c ≡ camera → ⊥) → writes change v c ≡ false → ((o : Option Pose) → cell_after change v c o ≡ o) → Named v c
 
   named : (v c : ℕ) → Named v c
@@ -130,8 +130,8 @@ module _ (view camera : ℕ) (p : Pose) where
   named v c = go (of_cell view camera v c)
     where
       go : OfCell view camera v c → Named v c
-      go (this e f both) = this_cell e f both (λ o. ap (λ (b : Bool). cond b (some p) o) both)
-      go (not_this other neither) = another other neither (λ o. ap (λ (b : Bool). cond b (some p) o) neither)
+      go (this e f both) = this_cell e f both (λ o. ap (λ (b : Bool). cond b (Some p) o) both)
+      go (not_this other neither) = another other neither (λ o. ap (λ (b : Bool). cond b (Some p) o) neither)
 
   -- ---- the law
 
@@ -163,7 +163,7 @@ module _ (view camera : ℕ) (p : Pose) where
         ),
       ))
 
-  sound_after : (s : Session) → edit_refusal (held_of s) change ≡ none → Sound s → Sound (edit_session s change)
+  sound_after : (s : Session) → edit_refusal (held_of s) change ≡ None → Sound s → Sound (edit_session s change)
   unfolding edit_session
   sound_after s e h =
       let here = place-accepted s view camera p e in
@@ -179,14 +179,14 @@ module _ (view camera : ℕ) (p : Pose) where
         true_summary = refl;
       }
 
-  length_kept : (s : Session) (buffer : List Float) → edit_refusal (held_of s) change ≡ none → Sound s → length buffer ≡ buffer_length
+  length_kept : (s : Session) (buffer : List Float) → edit_refusal (held_of s) change ≡ None → Sound s → length buffer ≡ buffer_length
       → length (edit_buffer buffer change) ≡ length buffer
   unfolding edit_buffer
   length_kept s buffer e sound fits =
       let room = cell_fits s view camera p sound e buffer fits in
       simp (length-append, length-take, length-drop) (omega (arith, room))
 
-  others_kept : (s : Session) (buffer : List Float) → edit_refusal (held_of s) change ≡ none → Sound s → length buffer ≡ buffer_length
+  others_kept : (s : Session) (buffer : List Float) → edit_refusal (held_of s) change ≡ None → Sound s → length buffer ≡ buffer_length
       → (v c : ℕ) → c < max_cameras → (v ≡ view → c ≡ camera → ⊥)
       → (k : ℕ) → k < 7 → get_or (edit_buffer buffer change) (cell_start v c + k) nan ≡ get_or buffer (cell_start v c + k) nan
   unfolding edit_buffer
@@ -195,7 +195,7 @@ module _ (view camera : ℕ) (p : Pose) where
       ⊎_elim (get_or_put_before buffer (cell_start view camera) p room (cell_start v c + k)) (get_or_put_after buffer (cell_start view camera) p room (cell_start v c + k))
       (cells-apart v c view camera k h (camera_fits s view camera p sound e) other l)
 
-  cells_after : (s : Session) (buffer : List Float) → edit_refusal (held_of s) change ≡ none → Sound s → length s.masks ≡ max_cameras
+  cells_after : (s : Session) (buffer : List Float) → edit_refusal (held_of s) change ≡ None → Sound s → length s.masks ≡ max_cameras
       → length buffer ≡ buffer_length → (v c : ℕ) (o : Option Pose) → c < max_cameras → HoldsCell s.masks buffer v c o
       → HoldsCell (edit_session s change).masks (edit_buffer buffer change) v c (cell_after change v c o)
   unfolding edit_session edit_buffer
@@ -224,24 +224,24 @@ module _ (view camera : ℕ) (p : Pose) where
           (holds_same s.masks masks buffer floats v c o (bit_elsewhere s.masks view camera inside clear v c other)
           (pose_at_agree floats buffer (cell_start v c) (others_kept s buffer e sound fits v c h other)) before)
 
-  finite_after : (s : Session) → edit_refusal (held_of s) change ≡ none → (v c : ℕ) (o : Option Pose) → FiniteCell o → FiniteCell (cell_after change v c o)
+  finite_after : (s : Session) → edit_refusal (held_of s) change ≡ None → (v c : ℕ) (o : Option Pose) → FiniteCell o → FiniteCell (cell_after change v c o)
   finite_after s e v c o before = go (named v c)
     where
       go : Named v c → FiniteCell (cell_after change v c o)
       go (this_cell _ _ _ now) = subst FiniteCell (sym (now o)) (rw (place-accepted s view camera p e).all_finite tt)
       go (another _ _ stays) = subst FiniteCell (sym (stays o)) before
 
-  into_empty : (s : Session) → edit_refusal (held_of s) change ≡ none → (v c : ℕ) → writes change v c ≡ true → in_mask (get_or s.masks c 0) v ≡ false
+  into_empty : (s : Session) → edit_refusal (held_of s) change ≡ None → (v c : ℕ) → writes change v c ≡ true → in_mask (get_or s.masks c 0) v ≡ false
   into_empty s e v c names = go (named v c)
     where
       go : Named v c → in_mask (get_or s.masks c 0) v ≡ false
       go (this_cell same_view same_camera _ _) = rw (same_view, same_camera) (place-accepted s view camera p e).not_held
       go (another _ not_named _) = absurd (true≢false (sym names ∙ not_named))
 
-  holds_written : (v c : ℕ) → writes change v c ≡ true → (o : Option Pose) → (q : Pose) × (cell_after change v c o ≡ some q)
+  holds_written : (v c : ℕ) → writes change v c ≡ true → (o : Option Pose) → (q : Pose) × (cell_after change v c o ≡ Some q)
   holds_written v c names o = go (named v c)
     where
-      go : Named v c → (q : Pose) × (cell_after change v c o ≡ some q)
+      go : Named v c → (q : Pose) × (cell_after change v c o ≡ Some q)
       go (this_cell _ _ _ now) = (p, now o)
       go (another _ not_named _) = absurd (true≢false (sym names ∙ not_named))
 

@@ -4,7 +4,7 @@ use native.Mathlib.Omega.{arith}
 use mathlib.Core.Path.{◌≡◌, refl, sym, ap, subst, ◌∙◌}
 use mathlib.Core.Logic.{inl, inr}
 use mathlib.Core.Bool.{not, false≢true}
-use mathlib.Core.Option.{none}
+use Rattle.std.specs.Prelude.{None}
 use mathlib.Core.List.{[], ◌∷◌}
 use lib.Pow.{pow_pos}
 use borrow.Author.Tests.{eqb-true, not-false, eq-eqb}
@@ -30,12 +30,12 @@ module _ (s : Session) (views cameras reference : ℕ) where
   unfolding edit_refusal
   size_checks_is = refl
 
-  pub size-accepted : edit_refusal (held_of s) (size views cameras reference) ≡ none → (s.views ≡ 0) × Sizes views cameras reference
+  pub size-accepted : edit_refusal (held_of s) (size views cameras reference) ≡ None → (s.views ≡ 0) × Sizes views cameras reference
   size-accepted e =
       let (again, (sizes, _)) = first_of_none_all _ (sym size_checks_is ∙ e) in
       (eqb-true _ _ (not-false _ (refuse_if-none _ _ again)), size_refusal-none views cameras reference sizes)
 
-  pub accepts_size : s.views ≡ 0 → Sizes views cameras reference → edit_refusal (held_of s) (size views cameras reference) ≡ none
+  pub accepts_size : s.views ≡ 0 → Sizes views cameras reference → edit_refusal (held_of s) (size views cameras reference) ≡ None
   accepts_size e sizes =
       size_checks_is
       ∙ first_of_all_none _ (refuse_if_false _ _ (ap not (eq-eqb _ _ e)), (size_refusal-sizes views cameras reference sizes, tt))
@@ -63,7 +63,7 @@ module _ (views cameras reference : ℕ) where
         λ e. (small_size views cameras reference, λ e. tt),
       ))
 
-  sound_after : (s : Session) → edit_refusal (held_of s) change ≡ none → Sound s → Sound (edit_session s change)
+  sound_after : (s : Session) → edit_refusal (held_of s) change ≡ None → Sound s → Sound (edit_session s change)
   unfolding edit_session
   sound_after s e h =
       let (none_yet, sizes) = size-accepted s views cameras reference e in

@@ -5,7 +5,7 @@ use native.Mathlib.Omega.{arith}
 use mathlib.Core.Path.{◌≡◌, refl, sym, ap, subst, ◌∙◌}
 use mathlib.Core.Logic.{inr}
 use mathlib.Core.Bool.{Bool, true, false, not, ◌||◌, cond, false≢true}
-use mathlib.Core.Option.{Option, none}
+use Rattle.std.specs.Prelude.{Option, None}
 use mathlib.Core.List.{List, [], ◌∷◌}
 use lib.ListN.{length, get_or, set, length-set}
 use lib.Seq.{get_or-set_same, get_or-set_other}
@@ -54,7 +54,7 @@ module _ (s : Session) (view camera : ℕ) where
   unfolding edit_refusal
   withdraw_checks_is = refl
 
-  pub withdraw-accepted : edit_refusal (held_of s) (withdraw view camera) ≡ none → Withdrawable s view camera
+  pub withdraw-accepted : edit_refusal (held_of s) (withdraw view camera) ≡ None → Withdrawable s view camera
   withdraw-accepted e =
       let (_, (outside, (empty, _))) = first_of_none_all withdraw_checks (sym withdraw_checks_is ∙ e) in
       let (view-outside, camera-outside) = or-false _ _ (refuse_if-none _ _ outside) in
@@ -64,7 +64,7 @@ module _ (s : Session) (view camera : ℕ) where
         held = not-false _ (refuse_if-none _ _ empty);
       }
 
-  pub accepts_withdraw : Withdrawable s view camera → edit_refusal (held_of s) (withdraw view camera) ≡ none
+  pub accepts_withdraw : Withdrawable s view camera → edit_refusal (held_of s) (withdraw view camera) ≡ None
   accepts_withdraw h =
       withdraw_checks_is
       ∙ first_of_all_none withdraw_checks (
@@ -76,7 +76,7 @@ module _ (s : Session) (view camera : ℕ) where
       inside = rw (lt-leb s.views view h.view_inside) (lt-leb s.cameras camera h.camera_inside)
 
   -- A sound record that accepts it has sizes, and so the cell is within the limits.
-  module _ (sound : Sound s) (e : edit_refusal (held_of s) (withdraw view camera) ≡ none) where
+  module _ (sound : Sound s) (e : edit_refusal (held_of s) (withdraw view camera) ≡ None) where
     sizes : Sizes s.views s.cameras s.reference
     sizes = has_sizes s sound (omega (arith, (withdraw-accepted e).view_inside))
 
@@ -124,7 +124,7 @@ module _ (view camera : ℕ) where
         ),
       ))
 
-  sound_after : (s : Session) → edit_refusal (held_of s) change ≡ none → Sound s → Sound (edit_session s change)
+  sound_after : (s : Session) → edit_refusal (held_of s) change ≡ None → Sound s → Sound (edit_session s change)
   unfolding edit_session
   sound_after s e h =
       let here = withdraw-accepted s view camera e in
@@ -138,7 +138,7 @@ module _ (view camera : ℕ) where
         true_summary = refl;
       }
 
-  cells_after : (s : Session) (buffer : List Float) → edit_refusal (held_of s) change ≡ none → Sound s → length s.masks ≡ max_cameras
+  cells_after : (s : Session) (buffer : List Float) → edit_refusal (held_of s) change ≡ None → Sound s → length s.masks ≡ max_cameras
       → (v c : ℕ) (o : Option Pose) → HoldsCell s.masks buffer v c o → HoldsCell (edit_session s change).masks buffer v c (cell_after change v c o)
   unfolding edit_session cell_after
   cells_after s buffer e sound sixteen v c o before = go (of_cell view camera v c)
@@ -154,10 +154,10 @@ module _ (view camera : ℕ) where
 
       go : OfCell view camera v c → HoldsCell masks buffer v c (cell_after change v c o)
       go (this same_view same_camera names) =
-          subst (HoldsCell masks buffer v c) (sym (ap (λ (b : Bool). cond b none o) names))
+          subst (HoldsCell masks buffer v c) (sym (ap (λ (b : Bool). cond b None o) names))
           (rw (same_view, same_camera) (clear_here s.masks view camera inside held))
       go (not_this other names) =
-          subst (HoldsCell masks buffer v c) (sym (ap (λ (b : Bool). cond b none o) names))
+          subst (HoldsCell masks buffer v c) (sym (ap (λ (b : Bool). cond b None o) names))
           (holds_same s.masks masks buffer buffer v c o (clear_elsewhere s.masks view camera inside held v c other) refl before)
 
   finite_after : (v c : ℕ) (o : Option Pose) → FiniteCell o → FiniteCell (cell_after change v c o)
@@ -165,8 +165,8 @@ module _ (view camera : ℕ) where
   finite_after v c o before = go (of_cell view camera v c)
     where
       go : OfCell view camera v c → FiniteCell (cell_after change v c o)
-      go (this _ _ names) = subst FiniteCell (sym (ap (λ (b : Bool). cond b none o) names)) tt
-      go (not_this _ names) = subst FiniteCell (sym (ap (λ (b : Bool). cond b none o) names)) before
+      go (this _ _ names) = subst FiniteCell (sym (ap (λ (b : Bool). cond b None o) names)) tt
+      go (not_this _ names) = subst FiniteCell (sym (ap (λ (b : Bool). cond b None o) names)) before
 
   pub withdraw_law : EditLaw change
   unfolding edit_session edit_buffer writes sizes_in

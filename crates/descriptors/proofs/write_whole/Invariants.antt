@@ -1,9 +1,7 @@
--- What was written is within the bytes; the calls that are left fall. Assumes nothing.
-use Rattle.std.proofs.Common.{length, ◌≤◌}
+-- What was written is the front of the bytes, and is what the output gained. Assumes nothing.
+use Rattle.std.proofs.Common.{◌≤◌, length, take}
+use Rattle.std.specs.Io.KnownBytes.{Appends}
 use Rattle.descriptors.proofs.write_whole.Given as goal
 
-abbrev pub invariant-loop-done : goal.invariant-loop-done
-invariant-loop-done g l = l.done ≤ length l.bytes
-
-abbrev pub decreases-loop-done : goal.decreases-loop-done
-decreases-loop-done g l = l.calls
+abbrev pub invariant-loop : goal.invariant-loop
+invariant-loop g l = (l.done ≤ length l.bytes) × Appends (g.W.Write.contents l.initial.output) (g.W.Write.contents l.output) (take l.done l.bytes)

@@ -4,14 +4,14 @@ use borrow.Author.Rules.{rules}
 use Rattle.frames.proofs.Telling.{told-refused, told-commands}
 use Rattle.frames.proofs.turn_frames.Goals as goal
 
-pub returns-in-Refused : goal.returns-in-Refused
-returns-in-Refused c =
+pub returns-in-Err : goal.returns-in-Err
+returns-in-Err c =
     let room = c.room_for-room in
     told-refused c.args.frames.now c.args.commands.now room.result room.ensures.0 (search rules) _ _ c.args.line.now _ _
-    (sym c.in-Refused.ensures.value) (search rules) c.write_refusal-told.ensures
+    (sym c.in-Err.ensures.value) (search rules) (search rules)
 
-pub returns-in-Frames : goal.returns-in-Frames
-returns-in-Frames c =
+pub returns-in-Ok : goal.returns-in-Ok
+returns-in-Ok c =
     let room = c.room_for-room in
     told-commands c.args.frames.now c.args.commands.now room.result room.ensures.0 (search rules) _ _ c.args.line.now
-    (sym c.in-Frames.ensures.value) c.in-Frames.ensures.commands_after c.import_frames.auto.commands
+    (sym c.in-Ok.ensures.value) c.in-Ok.ensures.commands_after c.import_frames.auto.commands

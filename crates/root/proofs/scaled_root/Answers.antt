@@ -2,19 +2,13 @@
 use mathlib.Core.Path.{sym, ap, ◌∙◌}
 use native.Mathlib.Omega.{arith}
 use Rattle.root.specs.Inner.Steps.{pattern}
-use Rattle.root.proofs.Scale.{unscaled, scaled_more, Rounded-digits, pattern_scaled}
+use Rattle.root.proofs.Scale.{scaled_more, pattern_scaled}
 use Rattle.root.proofs.scaled_root.Goals as goal
-
-pub loop-n-init : goal.loop-n-init
-loop-n-init c = unscaled c.args.m c.args.b (omega arith) (omega arith)
 
 pub loop-n-preserved : goal.loop-n-preserved
 loop-n-preserved c =
     let l = c.loop-n in
     scaled_more c.args.m c.args.b l.n l.c l.invariant (omega arith) (omega arith)
-
-pub overflow_add-result : goal.overflow_add-result
-overflow_add-result c = let d = Rounded-digits (omega arith) (omega arith) c.nearest_root.ensures in omega arith
 
 pub returns : goal.returns
 returns c =

@@ -1,11 +1,6 @@
 -- `count_view` meets its contract. The loop's invariant: the view is counted with each camera before `other`. Assumes nothing.
-use Prim.Native.Nat.{◌-◌, ◌≤◌}
-use Rattle.limits.specs.Limits.{max_cameras}
 use Rattle.shared_counts.specs.Inner.Counts.{Counted}
 use Rattle.shared_counts.proofs.count_view.Given as goal
 
 abbrev pub invariant-loop-other : goal.invariant-loop-other
-invariant-loop-other l = (l.other ≤ max_cameras) × Counted l.masks l.initial.shared l.camera l.view l.by l.other l.shared
-
-abbrev pub decreases-loop-other : goal.decreases-loop-other
-decreases-loop-other l = max_cameras - l.other
+invariant-loop-other l = Counted l.masks l.initial.shared l.camera l.view l.by l.other l.shared

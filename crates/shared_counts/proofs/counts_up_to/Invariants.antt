@@ -1,5 +1,4 @@
 -- `counts_up_to` meets its contract. The loop's invariant: `wrong` is 0 exactly where the entries with cameras before `other` are true. Assumes nothing.
-use Prim.Native.Nat.{◌+◌, ◌-◌, ◌≤◌}
 use mathlib.Core.Path.{◌≡◌}
 use lib.Dec.{eqb}
 use Rattle.lists.specs.Finding.{all_below}
@@ -7,7 +6,4 @@ use Rattle.shared_counts.specs.Inner.Counts.{true_entries}
 use Rattle.shared_counts.proofs.counts_up_to.Given as goal
 
 abbrev pub invariant-loop-other : goal.invariant-loop-other
-invariant-loop-other l = (l.other ≤ l.camera + 1) × (eqb l.wrong 0 ≡ all_below (true_entries l.masks l.shared l.camera) l.other)
-
-abbrev pub decreases-loop-other : goal.decreases-loop-other
-decreases-loop-other l = l.camera + 1 - l.other
+invariant-loop-other l = eqb l.wrong 0 ≡ all_below (true_entries l.masks l.shared l.camera) l.other

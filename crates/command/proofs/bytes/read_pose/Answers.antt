@@ -1,46 +1,41 @@
 -- `read_pose` meets its contract: each of the seven numbers of a finite pose is finite. Assumes nothing.
+use Prim.Native.Nat.{ℕ, ◌+◌, ◌*◌, ◌<◌}
+use mathlib.Core.Path.{◌≡◌}
+use mathlib.Core.Bool.{true}
+use native.Mathlib.Nat.{add-zero}
+use native.Mathlib.Omega.{arith}
+use lib.Ieee.{Float, nan}
+use lib.Ieee.Scale.{finite}
+use lib.ListN.{get_or}
 use borrow.Author.Rules.{rules}
-use Rattle.command.specs.Command.{offered_pose}
-use Rattle.command.proofs.OfferedPoses.{finite_translation, finite_rotation}
+use Rattle.command.specs.Command.{double_at, offered_pose}
+use Rattle.command.proofs.MadeArrays.{serves_from_indices, get_or-from_fn}
+use Rattle.command.proofs.OfferedPoses.{finite_offered}
 use Rattle.command.proofs.bytes.read_pose.Goals as goal
 
-pub read_double-requires : goal.read_double-requires
-unfolding offered_pose
-read_double-requires c = (search rules, (finite_translation _ c.requires.1).finite_x)
-
-pub read_double-requires-2 : goal.read_double-requires-2
-unfolding offered_pose
-read_double-requires-2 c = (search rules, (finite_translation _ c.requires.1).finite_y)
-
-pub read_double-requires-3 : goal.read_double-requires-3
-unfolding offered_pose
-read_double-requires-3 c = (search rules, (finite_translation _ c.requires.1).finite_z)
-
-pub read_double-requires-4 : goal.read_double-requires-4
-unfolding offered_pose
-read_double-requires-4 c = (search rules, (finite_rotation _ c.requires.1).finite_i)
-
-pub read_double-requires-5 : goal.read_double-requires-5
-unfolding offered_pose
-read_double-requires-5 c = (search rules, (finite_rotation _ c.requires.1).finite_j)
-
-pub read_double-requires-6 : goal.read_double-requires-6
-unfolding offered_pose
-read_double-requires-6 c = (search rules, (finite_rotation _ c.requires.1).finite_k)
-
-pub read_double-requires-7 : goal.read_double-requires-7
-unfolding offered_pose
-read_double-requires-7 c = (search rules, (finite_rotation _ c.requires.1).finite_w)
+pub from_fn-requires : goal.from_fn-requires
+from_fn-requires c =
+    let a = c.args in (
+      omega arith,
+      serves_from_indices 7 (λ x q r. search rules)
+          (λ x below.
+          let is_finite : finite (double_at a.stream.now (a.at + 8 * x)) ≡ true = finite_offered a.stream.now a.at c.requires.1 x below in
+          search rules),
+    )
 
 pub returns : goal.returns
 unfolding offered_pose
 returns c =
+    let a = c.args in
+    let number : (k : ℕ) (d : Float) → k < 7 → get_or c.from_fn.result k d ≡ double_at a.stream.now (a.at + 8 * k) =
+    get_or-from_fn (λ k. double_at a.stream.now (a.at + 8 * k)) (λ x y q called. search rules) _ 7 c.from_fn.ensures.items in
     simp (
-      c.read_double-7.ensures,
-      c.read_double-6.ensures,
-      c.read_double-5.ensures,
-      c.read_double-4.ensures,
-      c.read_double-3.ensures,
-      c.read_double-2.ensures,
-      c.read_double.ensures,
+      add-zero,
+      number 0 nan (omega arith),
+      number 1 nan (omega arith),
+      number 2 nan (omega arith),
+      number 3 nan (omega arith),
+      number 4 nan (omega arith),
+      number 5 nan (omega arith),
+      number 6 nan (omega arith),
     )

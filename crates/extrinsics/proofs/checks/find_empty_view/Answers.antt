@@ -1,18 +1,17 @@
 -- `find_empty_view` meets its contract: a view is empty where the union of the masks, `held`, has no bit for it. Assumes nothing.
 use Prim.Native.Nat.{ℕ, ◌/◌, ◌%◌, ◌^◌}
 use native.Mathlib.Omega.{arith}
-use mathlib.Core.Path.{◌≡◌, refl, sym, ap, ◌∙◌}
+use mathlib.Core.Path.{◌≡◌, sym, ap, ◌∙◌}
 use mathlib.Core.Logic.{◌↔◌}
 use mathlib.Core.Bool.{true, false, not}
-use mathlib.Core.List.{List}
 use borrow.Author.Tests.{eq-eqb, ne_eqb}
 use lib.Dec.{T}
-use lib.Ieee.{Float}
 use lib.Bits.{bit_and, and_mask}
+use lib.Ieee.{Float}
+use mathlib.Core.List.{List}
 use Rattle.lists.specs.Masks.{in_mask}
 use Rattle.placing.specs.Rig.{rig_grid}
 use Rattle.lists.specs.Finding.{lowest}
-use Rattle.inputs.specs.Inner.Finding.{found_of}
 use Rattle.extrinsics.specs.Outcome.{is_empty_view, lowest_empty_view}
 use Rattle.placing.specs.declared.grid.Rig.{Rig}
 use Rattle.lists.proofs.Lowest.{lowest-none_more, lowest-first, lowest_agree}
@@ -39,29 +38,22 @@ bit_set mask v n =
     let odd : mask / 2 ^ v % 2 ≡ 0 → ⊥ = λ z. n (and_mask (mask / 2 ^ v) 1 ∙ z) in
     ap not (eq-eqb (mask / 2 ^ v % 2) 1 (omega arith))
 
-pub loop-view-init : goal.loop-view-init
-unfolding lowest
-loop-view-init c = (omega arith, refl)
-
 pub returns-then-held-view-eq0 : goal.returns-then-held-view-eq0
-unfolding found_of
 returns-then-held-view-eq0 c =
-    let h = c.held_views-held in
-    let a = c.args in
-    λ floats. sym (ap found_of (lowest_empty_view-not_in a.rig floats h.result h.ensures
-    ∙ lowest-first (not_in h.result) c.loop-view.view a.rig.views (omega arith) c.loop-view.invariant.1 (bit_clear h.result c.loop-view.view c.if-held-view-eq0.true)))
+    let seen = c.args.seen.now in
+    let held = c.held_views-held.result in
+    let view = c.loop-view.view in
+    sym (lowest_empty_view-not_in seen.rig seen.floats.now held c.held_views-held.ensures
+    ∙ lowest-first (not_in held) view seen.rig.views (omega arith) c.loop-view.invariant (bit_clear held view c.if-held-view-eq0.true))
 
 pub loop-view-preserved : goal.loop-view-preserved
 loop-view-preserved c =
-    let h = c.held_views-held in (
-      omega arith,
-      lowest-none_more (not_in h.result) c.loop-view.view c.loop-view.invariant.1 (bit_set h.result c.loop-view.view c.if-held-view-eq0.false),
-    )
+    let held = c.held_views-held.result in
+    let view = c.loop-view.view in
+    lowest-none_more (not_in held) view c.loop-view.invariant (bit_set held view c.if-held-view-eq0.false)
 
 pub returns : goal.returns
-unfolding found_of
 returns c =
-    let h = c.held_views-held in
-    let a = c.args in
-    let all : c.loop-view.view ≡ a.rig.views = omega arith in
-    λ floats. sym (ap found_of (lowest_empty_view-not_in a.rig floats h.result h.ensures ∙ (rw all at c.loop-view.invariant.1)))
+    let seen = c.args.seen.now in
+    let all : c.loop-view.view ≡ seen.rig.views = omega arith in
+    sym (lowest_empty_view-not_in seen.rig seen.floats.now c.held_views-held.result c.held_views-held.ensures ∙ (rw all at c.loop-view.invariant))

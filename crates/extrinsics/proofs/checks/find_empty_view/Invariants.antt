@@ -1,8 +1,8 @@
 -- `find_empty_view` meets its contract: a view is empty where the union of the masks, `held`, has no bit for it. Assumes nothing.
-use Prim.Native.Nat.{ℕ, ◌-◌, ◌≤◌}
+use Prim.Native.Nat.{ℕ}
 use mathlib.Core.Path.{◌≡◌}
 use mathlib.Core.Bool.{Bool, not}
-use mathlib.Core.Option.{none}
+use Rattle.std.specs.Prelude.{None}
 use Rattle.lists.specs.Masks.{in_mask}
 use Rattle.lists.specs.Finding.{lowest}
 use Rattle.extrinsics.proofs.checks.find_empty_view.Given as goal
@@ -12,7 +12,4 @@ abbrev pub not_in : ℕ → ℕ → Bool
 not_in mask v = not (in_mask mask v)
 
 abbrev pub invariant-loop-view : goal.invariant-loop-view
-invariant-loop-view l = (l.view ≤ l.views) × (lowest (not_in l.held) l.view ≡ none)
-
-abbrev pub decreases-loop-view : goal.decreases-loop-view
-decreases-loop-view l = l.views - l.view
+invariant-loop-view l = lowest (not_in l.held) l.view ≡ None

@@ -1,53 +1,42 @@
--- `unreached_cameras` meets its contract: the set is the sum over the cameras passed, and the tree's byte for no place stands exactly at
--- those without a place. Assumes nothing.
-use Prim.Native.Nat.{ℕ}
+-- `unreached_cameras` meets its contract: the set is the sum over the cameras passed, and the tree has no place exactly for those that
+-- the layers do not place. Assumes nothing.
 use native.Mathlib.Omega.{arith}
-use mathlib.Core.Path.{◌≡◌, refl, ap₂, ◌∙◌}
+use mathlib.Core.Path.{◌≡◌, ap, ◌∙◌}
 use mathlib.Core.Bool.{not}
-use borrow.Author.Tests.{eq-eqb, ne_eqb}
 use lib.Pow.{pow_mono}
-use Rattle.chains.specs.Inner.Trees.{tree_of}
+use Rattle.chains.specs.Inner.Trees.{tree_of, place_at}
 use Rattle.placing.specs.Grid.{spots, has_place}
 use Rattle.placing.specs.Rig.{rig_grid}
-use Rattle.lists.specs.Finding.{power_sum}
 use Rattle.extrinsics.specs.Outcome.{unreached_set}
-use Rattle.chains.specs.declared.Tree.{Tree}
 use Rattle.lists.proofs.PowerSums.{power_sum-lt, power_sum_more, power_sum_same, power_sum_agree, one_shl}
-use Rattle.extrinsics.proofs.PlaceBytes.{no_place_byte}
+use Rattle.chains.proofs.Reading.{is_some-place_at}
 use Rattle.extrinsics.proofs.checks.unreached_cameras.Goals as goal
+use Rattle.extrinsics.proofs.checks.unreached_cameras.Goals.{then-is_none, else-is_none}
 use Rattle.extrinsics.proofs.checks.unreached_cameras.Invariants.{no_place}
-use Rattle.extrinsics.proofs.checks.unreached_cameras.Goals.{then-tree-camera, else-tree-camera}
-
-pub loop-camera-init : goal.loop-camera-init
-unfolding power_sum
-loop-camera-init c = (omega arith, refl)
 
 pub overflow_add-set : goal.overflow_add-set
 overflow_add-set c =
-    omega (
-      arith,
-      one_shl c.loop-camera.camera (omega arith),
-      power_sum-lt (no_place c.args.tree) c.loop-camera.camera,
-      pow_mono {i = c.loop-camera.camera} {j = 16} (omega arith),
-    )
+    let fits = c.args.seen.now.fits in
+    let camera = c.loop-camera.camera in
+    omega (arith, one_shl camera (omega arith), power_sum-lt (no_place c.args.tree.now) camera, pow_mono {i = camera} {j = 16} (omega arith))
 
 pub loop-camera-preserved : goal.loop-camera-preserved
 loop-camera-preserved c =
-    let test = no_place c.args.tree in (
-      omega arith,
-      elim c.if-tree-camera.branch [
-        | then-tree-camera w ↦ omega (arith, power_sum_more test c.loop-camera.camera (eq-eqb _ _ w.if-tree-camera.true), one_shl c.loop-camera.camera (omega arith))
-        | else-tree-camera w ↦ omega (arith, power_sum_same test c.loop-camera.camera (ne_eqb _ _ w.if-tree-camera.false))
-      ],
-    )
+    let fits = c.args.seen.now.fits in
+    let test = no_place c.args.tree.now in
+    let camera = c.loop-camera.camera in
+    elim c.if-is_none.branch [
+      | then-is_none w ↦ omega (arith, power_sum_more test camera (ap not w.if-is_none.ensures), one_shl camera (omega arith))
+      | else-is_none w ↦ omega (arith, power_sum_same test camera (ap not w.if-is_none.ensures))
+    ]
 
 pub returns : goal.returns
-unfolding unreached_set rig_grid
+unfolding unreached_set rig_grid place_at
 returns c =
-    let a = c.args in
-    let all : c.loop-camera.camera ≡ a.rig.cameras = omega arith in
-    λ floats of_grid.
-    let g = rig_grid a.rig floats in
-    c.loop-camera.invariant.1
-    ∙ ap₂ (λ (t : Tree) (n : ℕ). power_sum (no_place t) n) of_grid all
-    ∙ power_sum_agree (no_place (tree_of (spots g))) (λ i. not (has_place g i)) a.rig.cameras (λ i l. no_place_byte g (omega arith) i l)
+    let seen = c.args.seen.now in
+    let g = rig_grid seen.rig seen.floats.now in
+    let all : c.loop-camera.camera ≡ seen.rig.cameras = omega arith in
+    c.loop-camera.invariant
+    ∙ rw (all, c.requires)
+    (power_sum_agree (no_place (tree_of (spots g))) (λ i. not (has_place g i)) seen.rig.cameras
+    (λ i l. ap not (is_some-place_at (spots g) i (omega (arith, seen.fits.cameras_fit)))))

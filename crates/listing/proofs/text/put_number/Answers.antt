@@ -1,12 +1,17 @@
--- `listing::text::put_number` meets its contract: a number of 32 bits has at most ten digits. Assumes nothing.
+-- `listing::text::put_number` meets its contract: `io::decimal`'s fewest digits are the decimal text, put behind the blank. Assumes nothing.
 use native.Mathlib.Omega.{arith}
-use Rattle.listing.proofs.Digits.{length-decimal_text-le}
+use Rattle.putting.proofs.Putting.{puts_then, puts_length}
+use Rattle.listing.proofs.Digits.{digits_decimal_text}
 use Rattle.listing.proofs.text.put_number.Goals as goal
 
-pub put_decimal-requires : goal.put_decimal-requires
-put_decimal-requires c = omega (arith, length-decimal_text-le 9 c.args.n (omega arith))
+pub put_bytes-requires : goal.put_bytes-requires
+put_bytes-requires c =
+    let d = c.decimal-count in
+    rw (d.ensures.digits, digits_decimal_text c.from.result d.result (omega arith) d.ensures.len, c.from.ensures)
+    (omega (arith, puts_length c.put_byte.ensures))
 
 pub returns : goal.returns
 returns c =
-    let called = c.put_decimal.ensures in
-    record { put = called; upper_bound = omega (arith, called.behind, length-decimal_text-le 9 c.args.n (omega arith)) }
+    let d = c.decimal-count in
+    rw (d.ensures.digits, digits_decimal_text c.from.result d.result (omega arith) d.ensures.len, c.from.ensures) at
+    (puts_then c.put_byte.ensures c.put_bytes.ensures)

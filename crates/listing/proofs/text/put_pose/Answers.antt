@@ -1,19 +1,23 @@
--- `listing::text::put_pose` meets its contract: seven fields and the line's end, one behind the other. Assumes nothing.
+-- `listing::text::put_pose` meets its contract: seven fields take what is asked for, and the line's end is put behind them. Assumes nothing.
 use native.Mathlib.Omega.{arith}
-use Rattle.putting.proofs.Putting.{put_then}
+use mathlib.Core.Path.{◌≡◌}
+use lib.Ieee.{Float}
+use lib.ListN.{length-take}
+use Rattle.arithmetic.specs.Pose.{flat}
+use Rattle.putting.proofs.Putting.{puts_then, puts_length}
+use Rattle.listing.proofs.Fields.{length_float_fields, puts_next_float, fields_text-floats}
 use Rattle.listing.proofs.text.put_pose.Goals as goal
+
+pub put_float-requires : goal.put_float-requires
+put_float-requires c = omega (arith, puts_length, length_float_fields, length-take {A = Float})
+
+pub loop-number-preserved : goal.loop-number-preserved
+loop-number-preserved c = puts_next_float (flat c.args.pose) c.loop-number.number-index (omega arith) c.loop-number.invariant c.put_float.ensures
+
+pub put_byte-requires : goal.put_byte-requires
+put_byte-requires c = omega (arith, puts_length, length_float_fields, length-take {A = Float})
 
 pub returns : goal.returns
 returns c =
-    let p1 = c.put_float-y_at.ensures in
-    let p2 = c.put_float-z_at.ensures in
-    let p3 = c.put_float-i_at.ensures in
-    let p4 = c.put_float-j_at.ensures in
-    let p5 = c.put_float-k_at.ensures in
-    let p6 = c.put_float-w_at.ensures in
-    let p7 = c.put_float-end.ensures in
-    let end = c.put_byte.ensures in
-    record {
-      put = put_then p1.put (put_then p2.put (put_then p3.put (put_then p4.put (put_then p5.put (put_then p6.put (put_then p7.put end))))));
-      value = omega (arith, end.behind, p1.value, p2.value, p3.value, p4.value, p5.value, p6.value, p7.value);
-    }
+    let all : c.loop-number.number-index ≡ 7 = omega arith in
+    rw (fields_text-floats (flat c.args.pose)) (puts_then (rw all at c.loop-number.invariant) c.put_byte.ensures)

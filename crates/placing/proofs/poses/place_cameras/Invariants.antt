@@ -1,7 +1,6 @@
 -- `place_cameras` meets its contract: the reference is all there is before layer 1 (`placed_to_reference`); within a layer `PlacedBefore` holds of the cameras
 -- passed, and one camera more is either stored with its rig pose (`placed_before_stored`) or belongs to another layer (`placed_before_passed`); and no camera
 -- has as many links as there are cameras (`placed_to_all`). Assumes nothing.
-use Prim.Native.Nat.{◌-◌, ◌≤◌, ◌<◌}
 use mathlib.Core.Path.{◌≡◌}
 use lib.ListN.{length}
 use Rattle.limits.specs.Limits.{max_cameras}
@@ -12,13 +11,7 @@ use Rattle.placing.proofs.LayerPoses.{PlacedBefore}
 use Rattle.placing.proofs.poses.place_cameras.Given as goal
 
 abbrev pub invariant-loop-camera : goal.invariant-loop-camera
-invariant-loop-camera l = (l.camera ≤ l.cameras) × (length l.poses ≡ max_cameras) × PlacedBefore (rig_grid l.rig l.floats) (parent_at l.tree) (links_at l.tree) l.layer l.camera l.poses
-
-abbrev pub decreases-loop-camera : goal.decreases-loop-camera
-decreases-loop-camera l = l.cameras - l.camera
+invariant-loop-camera l = (length l.poses ≡ max_cameras) × PlacedBefore (rig_grid l.seen.rig l.seen.floats.now) (parent_at l.tree) (links_at l.tree) l.layer l.camera l.poses
 
 abbrev pub invariant-loop-layer : goal.invariant-loop-layer
-invariant-loop-layer l = (0 < l.layer) × (length l.poses ≡ max_cameras) × PlacedTo (rig_grid l.rig l.floats) (parent_at l.tree) (links_at l.tree) l.layer l.poses
-
-abbrev pub decreases-loop-layer : goal.decreases-loop-layer
-decreases-loop-layer l = l.cameras - l.layer
+invariant-loop-layer l = (length l.poses ≡ max_cameras) × PlacedTo (rig_grid l.seen.rig l.seen.floats.now) (parent_at l.tree) (links_at l.tree) l.layer l.poses

@@ -1,8 +1,8 @@
 -- `store_pose` meets its contract: a pose written to the front of the part that begins at the cell. Assumes nothing.
+use Prim.Native.Nat.{◌+◌, ◌*◌}
 use native.Mathlib.Omega.{arith}
 use Rattle.arithmetic.specs.Pose.{flat}
 use Rattle.placing.proofs.Filling.{put_tail}
-use Rattle.session_record.specs.Session.{cell_start}
 use Rattle.session_commands.specs.Pose.{buffer_after_pose}
 use Rattle.session_commands.proofs.pose.store_pose.Goals as goal
 
@@ -10,4 +10,4 @@ pub returns : goal.returns
 unfolding buffer_after_pose
 returns c =
     let a = c.args in
-    put_tail a.buffer.now _ (flat a.pose) (cell_start a.view a.camera) 7 (omega arith) c.write.ensures
+    rw (← c.from.ensures, ← c.from-2.ensures) (put_tail a.buffer.now _ (flat a.pose) (7 * (c.from.result * 16 + c.from-2.result)) 7 (omega arith) c.write.ensures)

@@ -1,10 +1,7 @@
--- `product_of` meets its contract. The loop's invariant: `product` is that of the first i poses. Assumes nothing.
-use Rattle.std.proofs.Common.{◌≡◌, ◌-◌, ◌≤◌}
+-- The product is that of the first i poses. Assumes nothing.
+use Rattle.std.proofs.Common.{◌≡◌}
 use Rattle.test_probe.proofs.Products.{product_to}
 use Rattle.test_probe.proofs.poses.product_of.Given as goal
 
 abbrev pub invariant-loop-i : goal.invariant-loop-i
-invariant-loop-i l = (l.i ≤ l.n) × (l.product ≡ product_to l.i l.poses)
-
-abbrev pub decreases-loop-i : goal.decreases-loop-i
-decreases-loop-i l = l.n - l.i
+invariant-loop-i l = l.product ≡ product_to l.i l.poses

@@ -1,11 +1,10 @@
--- `write_inverses` meets its contract. The loop's invariant: the inverses of the first i poses are written, and what was behind them stands. Assumes nothing.
-use Rattle.std.proofs.Common.{◌≡◌, ℕ, ◌+◌, ◌*◌, ◌/◌, List, ◌++◌, length, take, drop, refl, ap, ◌∙◌, arith, rules}
+-- `write_inverses` meets its contract. Assumes nothing.
+use Rattle.std.proofs.Common.{◌≡◌, ℕ, ◌+◌, ◌*◌, ◌/◌, List, ◌++◌, length, drop, refl, ap, ◌∙◌, arith}
 use lib.Ieee.{Float}
 use Rattle.arithmetic.specs.Pose.{inverse_pose, flat, pose_at}
-use Rattle.arithmetic.specs.declared.pose.Pose.{Pose}
 use Rattle.lists.specs.Lists.{gather}
 use Rattle.test_probe.specs.Poses.{inverses_of}
-use Rattle.placing.proofs.Filling.{put_tail, fill_next, length-filled}
+use Rattle.placing.proofs.Filling.{fill_tail, length-filled}
 use Rattle.test_probe.proofs.poses.write_inverses.Goals as goal
 
 abbrev inverse_block : List Float → ℕ → List Float
@@ -13,26 +12,20 @@ inverse_block poses i = flat (inverse_pose (pose_at poses (7 * i)))
 
 pub loop-i-init : goal.loop-i-init
 unfolding gather
-loop-i-init c = (search rules, refl, refl)
+loop-i-init c = (refl, refl)
 
 pub loop-i-preserved : goal.loop-i-preserved
 loop-i-preserved c =
-    let l = c in
-    let a = l.args in
-    let i = l.loop-i.i in
-    let w = c.write in
-    let inverse = c.inverse-inverse in
-    let read = c.read in
-    let filled =
-    put_tail l.loop-i.inverses w.new.part (flat inverse.result) (7 * i) 7 (omega arith) w.ensures
-    ∙ ap (λ (p : Pose). take (7 * i) l.loop-i.inverses ++ (flat p ++ drop (7 * i + 7) l.loop-i.inverses)) (inverse.ensures ∙ ap inverse_pose read.ensures)
-    ∙ fill_next (inverse_block a.poses.now) 7 (λ i. refl) l.loop-i.inverses a.inverses.now i l.loop-i.invariant.2 in
-    (search rules, ap length filled ∙ length-filled (inverse_block a.poses.now) 7 (λ i. refl) a.inverses.now (i + 1) (omega arith), filled)
+    let a = c.args in
+    let l = c.loop-i in
+    let block = inverse_block a.poses.now in
+    let inverse = c.inverse-inverse.ensures ∙ ap inverse_pose c.read.ensures in
+    let filled = fill_tail block 7 (λ i. refl) l.inverses a.inverses.now c.write.new.part l.i (omega arith) l.invariant.1 (rw inverse at c.write.ensures) in
+    (ap length filled ∙ length-filled block 7 (λ i. refl) a.inverses.now (l.i + 1) (omega arith), filled)
 
 pub returns : goal.returns
 unfolding inverses_of
 returns c =
-    let l = c in
-    let a = l.args in
-    let all : l.loop-i.i ≡ length a.poses.now / 7 = omega arith in
-    l.loop-i.invariant.2 ∙ ap (λ (n : ℕ). gather n (inverse_block a.poses.now) ++ drop (7 * n) a.inverses.now) all
+    let a = c.args in
+    let all : c.loop-i.i ≡ length a.poses.now / 7 = omega arith in
+    c.loop-i.invariant.1 ∙ ap (λ (n : ℕ). gather n (inverse_block a.poses.now) ++ drop (7 * n) a.inverses.now) all

@@ -1,50 +1,31 @@
--- `print_by_commands` meets its contract. The loop's invariant: what was counted and what is still to come make up the whole (`Counts`); the measure is how
--- many calls are left at most. Assumes nothing.
-use Rattle.std.proofs.Common.{◌≡◌, ℕ, ◌+◌, ◌-◌, length, refl, ap, arith, rules}
-use Rattle.session_commands.specs.Obeyed.{state}
+-- `print_by_commands` meets its contract: each turn counts what its command prints. Assumes nothing.
+use Rattle.std.proofs.Common.{ap, arith}
+use Rattle.putting.proofs.Putting.{put_length}
+use Rattle.session_commands.specs.Inner.Lent.{state_in}
 use Rattle.session_record.specs.declared.Session.{Session}
-use Rattle.claims_printing.proofs.Loop.{round_falls}
-use Rattle.test_probe.proofs.Counting.{counts-first, turn-counts, counts_whole, round_of_call, written-whole}
+use Rattle.test_probe.proofs.Counting.{turn_counts, turn_ends, round_of_call, reply_long}
 use Rattle.test_probe.proofs.streams.print_by_commands.Goals as goal
 
-pub loop-more-init : goal.loop-more-init
-loop-more-init c = (refl, refl, refl, refl, search rules, counts-first _ _)
+pub loop-at-smaller : goal.loop-at-smaller
+loop-at-smaller c =
+    let l = c.loop-at in
+    let round = round_of_call {t = state_in l.session l.buffer l.answers} c.obey-step.ensures.called in
+    omega (arith, round.advances c.if-stream-at.false)
 
-pub overflow_sub-used : goal.overflow_sub-used
-overflow_sub-used c = omega (arith, c.write_from-used.ensures)
-
-pub loop-more-smaller : goal.loop-more-smaller
-loop-more-smaller c =
-    let called = c in
-    let turn = called in
-    let l = turn.loop-more in
-    round_falls (round_of_call {t = state l.session l.buffer l.transforms l.chains} called.obey-step.ensures) turn.loop-more-test.true
-
--- The place behind a text less the place where it begins is how long it is.
-counted : (from used bytes many : ℕ) → used ≡ from + bytes → bytes ≡ many → used - from ≡ many
-counted from used bytes many e f = omega arith
-
-pub loop-more-preserved : goal.loop-more-preserved
-loop-more-preserved c =
-    let wrote = c.write_from-used.ensures in
-    let held = c.held_of.ensures in
-    let place = c.place_behind-from.ensures in
-    let called = c in
-    let turn = called in
-    let l = turn.loop-more in
-    let now = state l.session l.buffer l.transforms l.chains in
-    let o = called.obey-step.ensures in (
-      search rules,
-      search rules,
-      search rules,
-      search rules,
-      search rules,
-      turn-counts _ (round_of_call {t = now} o) turn.loop-more-test.true l.count _ _ (counted _ _ _ _ wrote (ap length (written-whole {t = now} o held _ (omega (arith, place))))) c.wrapping_add_u64-count.ensures.value l.invariant.5,
+pub loop-at-preserved : goal.loop-at-preserved
+loop-at-preserved c =
+    let l = c.loop-at in
+    let called = c.obey-step.ensures.called in
+    let put = c.write_reply.ensures.put in
+    let long = reply_long called c.from.ensures c.make_room.ensures.room put in (
+      omega (arith, c.make_room.ensures.room, put_length put),
+      turn_counts _ (round_of_call {t = state_in l.session l.buffer l.answers} called) l.count long l.invariant.1 c.if-stream-at.false,
     )
 
-pub returns : goal.returns
-returns c =
-    let l = c.loop-more in
-    let a = c.args in
-    let same = ap (λ (s : Session). state s a.buffer.now a.transforms.now a.chains.now) c.fresh-session.ensures in
-    counts_whole same (state l.session l.buffer l.transforms l.chains) a.stream.now l.at l.count l.more c.loop-more-test.false l.invariant.5
+pub returns-then-stream-at : goal.returns-then-stream-at
+returns-then-stream-at c =
+    let l = c.loop-at in
+    let called = c.obey-step.ensures.called in
+    let long = reply_long called c.from.ensures c.make_room.ensures.room c.write_reply.ensures.put in
+    let same = ap (λ (s : Session). state_in s c.args.buffer.now c.args.answers.now) c.fresh-session.ensures in
+    turn_ends _ (round_of_call {t = state_in l.session l.buffer l.answers} called) l.count long l.invariant.1 same c.if-stream-at.true

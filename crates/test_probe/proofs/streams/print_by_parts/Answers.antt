@@ -1,39 +1,26 @@
--- `print_by_parts` meets its contract. The loop's invariant: what was counted and what is still to come make up the whole (`Counts`); the measure is how many
--- calls are left at most. Assumes nothing.
-use Rattle.std.proofs.Common.{refl, ap, rules}
-use Rattle.session_commands.specs.Obeyed.{state}
+-- `print_by_parts` meets its contract: each turn counts what its call of the whole-stream entry prints. Assumes nothing.
+use Rattle.std.proofs.Common.{ap, arith, rules}
+use Rattle.session_commands.specs.Inner.Lent.{state_in}
 use Rattle.session_record.specs.declared.Session.{Session}
-use Rattle.claims_printing.proofs.Loop.{round_of, round_falls}
-use Rattle.test_probe.proofs.Counting.{counts-first, turn-counts, counts_whole}
+use Rattle.claims_printing.proofs.Loop.{round_of}
+use Rattle.test_probe.proofs.Counting.{turn_counts, turn_ends}
 use Rattle.test_probe.proofs.streams.print_by_parts.Goals as goal
 
-pub loop-more-init : goal.loop-more-init
-loop-more-init c = (refl, refl, refl, refl, search rules, counts-first _ _)
+pub loop-at-smaller : goal.loop-at-smaller
+loop-at-smaller c =
+    let l = c.loop-at in
+    let round = round_of {t = state_in l.session l.buffer l.answers} l.invariant.0 c.obey_stream-part.ensures.obeyed in
+    omega (arith, round.advances c.if-stream-at.false)
 
-pub loop-more-smaller : goal.loop-more-smaller
-loop-more-smaller c =
-    let called = c in
-    let turn = called in
-    let l = turn.loop-more in
-    round_falls (round_of {t = state l.session l.buffer l.transforms l.chains} l.invariant.4 called.obey_stream-part.ensures) turn.loop-more-test.true
+pub loop-at-preserved : goal.loop-at-preserved
+loop-at-preserved c =
+    let l = c.loop-at in
+    let o = c.obey_stream-part.ensures.obeyed in
+    (search rules, turn_counts _ (round_of {t = state_in l.session l.buffer l.answers} l.invariant.0 o) l.count o.leaves.front.text_length l.invariant.1 c.if-stream-at.false)
 
-pub loop-more-preserved : goal.loop-more-preserved
-loop-more-preserved c =
-    let called = c in
-    let turn = called in
-    let l = turn.loop-more in
-    let o = called.obey_stream-part.ensures in (
-      search rules,
-      search rules,
-      search rules,
-      search rules,
-      search rules,
-      turn-counts _ (round_of {t = state l.session l.buffer l.transforms l.chains} l.invariant.4 o) turn.loop-more-test.true l.count _ _ o.leaves.front.text_length c.wrapping_add_u64-count.ensures.value l.invariant.5,
-    )
-
-pub returns : goal.returns
-returns c =
-    let l = c.loop-more in
-    let a = c.args in
-    let same = ap (λ (s : Session). state s a.buffer.now a.transforms.now a.chains.now) c.fresh-session.ensures in
-    counts_whole same (state l.session l.buffer l.transforms l.chains) a.stream.now l.at l.count l.more c.loop-more-test.false l.invariant.5
+pub returns-then-stream-at : goal.returns-then-stream-at
+returns-then-stream-at c =
+    let l = c.loop-at in
+    let o = c.obey_stream-part.ensures.obeyed in
+    let same = ap (λ (s : Session). state_in s c.args.buffer.now c.args.answers.now) c.fresh-session.ensures in
+    turn_ends _ (round_of {t = state_in l.session l.buffer l.answers} l.invariant.0 o) l.count o.leaves.front.text_length l.invariant.1 same c.if-stream-at.true

@@ -1,2 +1,0 @@
--- What the functions of `averaging` promise each other; no demand rests on it. Definitions only.
-pub mod Gathered
