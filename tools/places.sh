@@ -29,6 +29,6 @@ for point in 1a 1b 1c 2 3 4 5 6 7; do
 done
 printf 'point 8: %d answers in %d files, %d lemmas in %d files\n' \
   "$(cat crates/*/proofs/*/Answers.antt crates/*/proofs/*/*/Answers.antt crates/*/proofs/*/*/*/Answers.antt 2>/dev/null | grep -cE '^pub [^ ]+ : goal\.')" \
-  "$(find crates -path '*/proofs/*' -name Answers.antt | wc -l)" \
-  "$(find crates -path '*/proofs/*.antt' ! -name Answers.antt ! -name Invariants.antt ! -name Lib.antt -print0 | xargs -0 cat | grep -cE '^ *(pub )?[^ -][^ ]* ?(\{[^}]*\})? : .*')" \
-  "$(find crates -path '*/proofs/*.antt' ! -name Answers.antt ! -name Invariants.antt ! -name Lib.antt | wc -l)"
+  "$(find crates -path 'crates/*/proofs/*' ! -path '*/out/*' -name Answers.antt | wc -l)" \
+  "$(find crates -path 'crates/*/proofs/*.antt' ! -path '*/out/*' ! -name Answers.antt ! -name Invariants.antt ! -name Lib.antt -print0 | xargs -0 cat | grep -cE '^ *(pub )?[^ -][^ ]* ?(\{[^}]*\})? : .*')" \
+  "$(find crates -path 'crates/*/proofs/*.antt' ! -path '*/out/*' ! -name Answers.antt ! -name Invariants.antt ! -name Lib.antt | wc -l)"

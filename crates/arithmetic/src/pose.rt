@@ -304,15 +304,22 @@ impl Pose {
         requires { 7 ≤ length part.old }
         ensures { part.new ≡ flat self ++ drop 7 part.old }
     {
-        let t = self.translation;
-        let q = self.rotation;
-        part[0] = t.x;
-        part[1] = t.y;
-        part[2] = t.z;
-        part[3] = q.i;
-        part[4] = q.j;
-        part[5] = q.k;
-        part[6] = q.w;
+        part[..7].copy_from_slice(&<[f64; 7]>::from(self));
+    }
+}
+
+// The seven numbers of a pose, in the papers' order.
+impl From<Pose> for [f64; 7] {
+    ghost use Rattle.arithmetic.specs.Pose.{flat};
+
+    ghost from_gives = { λ pose numbers. numbers ≡ flat pose };
+
+    fn from(pose: Pose) -> [f64; 7] {
+        let Pose {
+            translation: t,
+            rotation: q,
+        } = pose;
+        [t.x, t.y, t.z, q.i, q.j, q.k, q.w]
     }
 }
 

@@ -21,7 +21,7 @@ use Rattle.claims_direct.specs.Rust.{no_valid_camera_poses, num_views, num_camer
 use Rattle.claims_direct.specs.Encoding.{EqualCounts, Encodes, WithinLimits, RoomEnough, RoomWhereSized, refusal_of, Agrees}
 use Rattle.claims_direct.proofs.SameGrid.{SameGrid}
 use Rattle.claims_direct.proofs.PartialRigs.{rig_final}
-use Rattle.claims_direct.proofs.RustLayers.{whileLayer-final}
+use Rattle.claims_direct.proofs.RustLayers.{while_layer-final}
 use Rattle.claims_direct.proofs.RustTargets.{rig_poses, unreached_same, flatten_rig_final, targets_same}
 use Rattle.claims_direct.proofs.RustSteps.{after_loop, rust_unreached, rust_empty_view, rust_solved, rust_no_views, rust_no_cameras, rust_reference, rust_counts, rust_loop}
 use Rattle.claims_direct.proofs.GridRefusals.{or_else_none, left, left-none, grid_refusal-unreached, grid_refusal-empty_view, transforms-flat_all}
@@ -168,7 +168,7 @@ module _ (camSe3Target : List (List (Option Pose))) (refCamIdx : ℕ) (counts ma
             rw (
               rust_loop camSe3Target refCamIdx (ne_eqb (num_views camSe3Target) 0 some_view) (ne_eqb (num_cameras camSe3Target) 0 some_camera)
                   (lt-leb (num_cameras camSe3Target) refCamIdx inside) (rig_final g) (check_counts_other_count camSe3Target ∙ rw e)
-                  (whileLayer-final camSe3Target g same within),
+                  (while_layer-final camSe3Target g same within),
               refused_grid sizes_pass (count_refusal_other_count camSe3Target counts marks floats encoded ∙ rw e) equal (room inside equal),
             )
             (agrees_after_loop camSe3Target g same (not_finite_passes camSe3Target counts marks floats encoded equal refCamIdx limits))

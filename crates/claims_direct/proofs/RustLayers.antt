@@ -158,10 +158,10 @@ module _ (camSe3Target : List (List (Option Pose))) (g : Grid) (same : SameGrid 
         go [] e t rest = ap ok (rig_after_final g k m e)
         go (c ∷ l) e t rest = rw t (rest (layer_below g k c l e))
 
-    pub whileLayer-final :
+    pub while_layer-final :
         while_layer camSe3Target (suc (num_cameras camSe3Target)) (set (replicate (num_cameras camSe3Target) None) g.reference (Some identity_pose)) (g.reference ∷ [])
         ≡ ok (rig_final g)
-    whileLayer-final =
+    while_layer-final =
         ap₂ (while_layer camSe3Target (suc (num_cameras camSe3Target)))
         (ap (λ (n : ℕ). set (replicate n None) g.reference (Some identity_pose)) (sym same.same_cameras) ∙ rig_after_zero g inside)
         (sym (layer_at_zero g inside))

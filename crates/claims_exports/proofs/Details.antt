@@ -7,7 +7,7 @@ use mathlib.Core.Bool.{Bool, true, false, not, cond}
 use Rattle.std.specs.Prelude.{Option, None, Some}
 use mathlib.Core.List.{List, [], ◌∷◌}
 use lib.ListN.{length, get_or}
-use lib.Dec.{T, eqb, leb, ltb}
+use lib.Dec.{T, leb, ltb}
 use lib.Ieee.{Float}
 use borrow.Author.Tests.{ltb-false}
 use Rattle.refusal.specs.Table.{refuse_if}
@@ -23,8 +23,9 @@ use Rattle.command.specs.Writing.{OfBytes}
 use Rattle.command.proofs.Writing.{command_at-bytes}
 use Rattle.session_record.specs.Session.{held_of, has_size, session_grid, possible}
 use Rattle.session_commands.specs.Commands.{command_refusal}
-use Rattle.session_commands.specs.Obeyed.{State, reply_to}
+use Rattle.session_commands.specs.Obeyed.{State, Result, reply_to}
 use Rattle.session.specs.Call.{max_stream, call_refusal, read, call, unusable}
+use Rattle.session.proofs.Calling.{call_cases}
 use Rattle.session_record.specs.declared.Session.{Session}
 use Rattle.claims_streams.specs.Stream.{answer_to, Usable}
 use Rattle.claims_streams.proofs.Accepting.{solve_checks}
@@ -113,11 +114,6 @@ module _ (t : State) (stream : List ℕ) (at : ℕ) (bytes : Bytes stream) where
             whole-or-short false = omega (arith, small-offset)
 
   pub small_call : SmallReply (call t stream at).reply
-  unfolding call
-  small_call = go (call_refusal t stream at) refl small_call_refusal (eqb at (length stream)) refl
-    where
-      go : (o : Option Refusal) → call_refusal t stream at ≡ o → Small (call_refusal t stream at) → (b : Bool) → eqb at (length stream) ≡ b
-          → SmallReply (call t stream at).reply
-      go (Some r) e k b f = rw (e, call) (subst Small e k)
-      go None e k true f = rw (e, call, f) tt
-      go None e k false f = let (in-limit, u, h) = call_checked t stream at e in rw (e, call, f) (small_read u.record_possible (omega (arith, in-limit, h)))
+  small_call =
+      call_cases t stream at (λ (r : Result). SmallReply r.reply) (λ r e. subst Small e small_call_refusal) (λ _ _. tt)
+      (λ e _. let (in-limit, u, h) = call_checked t stream at e in small_read u.record_possible (omega (arith, in-limit, h)))

@@ -3,32 +3,30 @@
 -- (`possible-call`). Assumes nothing.
 use Prim.Native.Nat.{ℕ, ◌+◌, ◌<◌}
 use native.Mathlib.Omega.{arith}
-use mathlib.Core.Path.{◌≡◌, refl, sym, ap, subst, ◌∙◌}
+use mathlib.Core.Path.{◌≡◌, sym, ap, subst, ◌∙◌}
 use mathlib.Core.Logic.{⊎_elim}
-use mathlib.Core.Bool.{Bool, true, false}
-use Rattle.std.specs.Prelude.{Option, None, Some}
+use mathlib.Core.Bool.{true}
+use Rattle.std.specs.Prelude.{None}
 use mathlib.Core.List.{List, ◌∷◌}
 use lib.ListN.{length, get_or, take, drop, length-append, length-drop}
-use lib.Dec.{T, eqb}
+use lib.Dec.{T}
 use lib.Seq.{length-take-le, take_at, take_all, drop-append-add, get_or-take, get_or-drop, get_or-append-add}
 use borrow.Author.Tests.{eq-eqb, lt-ltb}
-use Rattle.refusal.specs.declared.Refusal.{Refusal}
 use Rattle.limits.specs.Limits.{max_cameras}
 use Rattle.command.specs.Command.{Command, edit, solve, Parsed, complete, broken, unknown, parse}
 use Rattle.shared_counts.specs.Summary.{entry_count}
-use Rattle.shared_counts.proofs.Tests.{all_below_each}
+use Rattle.lists.proofs.AllBelow.{all_below_each}
 use Rattle.shared_counts.proofs.Summaries.{summary_length, summary_le}
 use Rattle.session_record.specs.Session.{held_of, possible}
 use Rattle.session_commands.specs.Commands.{command_refusal, session_after}
-use Rattle.session_commands.specs.Obeyed.{State, state_after}
-use Rattle.session.specs.Call.{call_refusal, read, call}
+use Rattle.session_commands.specs.Obeyed.{State, Result, state_after}
+use Rattle.session.specs.Call.{read, call}
+use Rattle.session_commands.proofs.Obeying.{obeyed_cases}
+use Rattle.session.proofs.Calling.{call_cases}
 use Rattle.session_record.specs.declared.Session.{Session}
-use Rattle.claims_streams.specs.Stream.{answer_to}
 use Rattle.claims_streams.proofs.Sound.{Sound, sound_of_possible, possible_of_sound, within_limits}
 use Rattle.claims_streams.proofs.Records.{sound_after}
 use Rattle.claims_streams.proofs.Edits.All.{edit_law}
-use Rattle.claims_streams.proofs.Streams.{obeyed-answer_to}
-use Rattle.claims_streams.proofs.Usable.{answer_to-accepted, answer_to-refused}
 use Rattle.record_words.specs.Words.{shared_word, record_words, words_of, session_in, is_byte_entry, is_record}
 use Rattle.record_words.proofs.Records.{is_record_words}
 use Rattle.claims_exports.proofs.Details.{call_checked}
@@ -125,30 +123,17 @@ wordable_after t w allowed solve e = w
 module _ (P : Session → Type 0) (t : State) (here : P t.session)
     (after : T (possible t.session) → (command : Command) → command_refusal (held_of t.session) t.buffer command ≡ None
     → P (session_after t.session command)) where
-  kept_answer : T (possible t.session) → (command : Command) → P (answer_to t command).after.session
-  unfolding state_after
-  kept_answer allowed command = go (command_refusal (held_of t.session) t.buffer command) refl
-    where
-      go : (o : Option Refusal) → command_refusal (held_of t.session) t.buffer command ≡ o → P (answer_to t command).after.session
-      go None e = rw (answer_to-accepted t command e) (after allowed command e)
-      go (Some r) e = rw (answer_to-refused t command r e) here
-
   kept_read : T (possible t.session) → (stream : List ℕ) (at : ℕ) (p : Parsed) → P (read t stream at p).after.session
-  unfolding read
-  kept_read allowed stream at (complete command width) = rw (obeyed-answer_to t command (at + width)) (kept_answer allowed command)
+  unfolding read state_after
+  kept_read allowed stream at (complete command width) =
+      obeyed_cases t command (at + width) (λ (r : Result). P r.after.session) (λ _ _. here) (after allowed command)
   kept_read allowed stream at broken = here
   kept_read allowed stream at (unknown byte) = here
 
   kept_call : (stream : List ℕ) (at : ℕ) → P (call t stream at).after.session
-  unfolding call
-  kept_call stream at = go (call_refusal t stream at) refl (eqb at (length stream)) refl
-    where
-      go : (o : Option Refusal) → call_refusal t stream at ≡ o → (b : Bool) → eqb at (length stream) ≡ b → P (call t stream at).after.session
-      go (Some r) e b f = rw (e, call) here
-      go None e true f = rw (e, call, f) here
-      go None e false f =
-          let (_, usable, _) = call_checked t stream at e in
-          rw (e, call, f) (kept_read usable.record_possible stream at (parse stream at))
+  kept_call stream at =
+      call_cases t stream at (λ (r : Result). P r.after.session) (λ _ _. here) (λ _ _. here)
+      (λ e _. let (_, usable, _) = call_checked t stream at e in kept_read usable.record_possible stream at (parse stream at))
 
 pub wordable_call : (t : State) (stream : List ℕ) (at : ℕ) → Wordable t.session → Wordable (call t stream at).after.session
 wordable_call t stream at w = kept_call Wordable t w (wordable_after t w) stream at

@@ -10,7 +10,7 @@ use mathlib.Core.List.{List}
 use lib.ListN.{length, get_or}
 use lib.Ieee.{Float}
 use Rattle.extrinsics.specs.Outcome.{not_finite}
-use Rattle.command.specs.Command.{solve, solve_byte, solve_width, width_of}
+use Rattle.command.specs.Command.{solve, solve_byte, solve_width}
 use Rattle.command.proofs.Decoding.{parse-solve}
 use Rattle.session_record.specs.Session.{held_of, session_grid}
 use Rattle.session_commands.specs.Obeyed.{State, Result, result}
@@ -70,6 +70,6 @@ module _ (words stream : List ℕ) (at : ℕ) (buffer first : List Float) (secon
         subst (AsDemanded t) (sym solve_step_answers)
         (record {
           as_direct = direct;
-          demand-2 = solve_demand_2 t usable some_view finite direct;
+          demand_2 = solve_demand_2 t usable some_view finite direct;
           demand_3 = solve_demand_3 t usable some_view finite direct;
         })

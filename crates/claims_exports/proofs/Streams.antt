@@ -6,12 +6,11 @@ use native.Mathlib.Decide.{dec_lt}
 use native.Mathlib.Omega.{arith}
 use mathlib.Core.Path.{◌≡◌, refl, sym, ap, ap₂, ◌∙◌}
 use mathlib.Core.Bool.{Bool, true, false, true≢false}
-use Rattle.std.specs.Prelude.{Option, None, Some}
+use Rattle.std.specs.Prelude.{Some}
 use mathlib.Core.List.{List, [], ◌∷◌}
 use lib.ListN.{length}
 use lib.Dec.{ltb}
 use lib.Ieee.{Float}
-use borrow.Author.Tests.{eq-eqb}
 use Rattle.refusal.specs.Table.{refuse_if, first_of}
 use Rattle.refusal.specs.declared.Refusal.{Refusal}
 use Rattle.refusal.specs.declared.Refusal.TheVariants.{WrongLength, Truncated, TooLong}
@@ -19,6 +18,7 @@ use Rattle.session_record.specs.Session.{fresh}
 use Rattle.session_commands.specs.Obeyed.{State, state, Result}
 use Rattle.session.specs.Call.{max_stream, call_refusal, call, unusable}
 use Rattle.session.proofs.Advancing.{call_advances}
+use Rattle.session.proofs.Calling.{call_cases}
 use Rattle.claims_streams.specs.Stream.{Answer, meaning, ends_stream, calls_from, calls}
 use Rattle.claims_streams.proofs.Streams.{calls_from-ends, calls_from_goes_on, calls_give_meaning}
 use Rattle.record_words.specs.Words.{is_record}
@@ -46,12 +46,10 @@ module _ (t : State) (stream : List ℕ) (at : ℕ) where
       go false false false f = cc
 
   ends-outside : length stream ≤ at → ends_stream (call t stream at).reply ≡ true
-  unfolding call ends_stream
-  ends-outside h = go (call_refusal t stream at) refl
-    where
-      go : (o : Option Refusal) → call_refusal t stream at ≡ o → ends_stream (call t stream at).reply ≡ true
-      go (Some r) e = rw (e, call) (check_ends r e)
-      go None e = rw (e, call, eq-eqb at (length stream) (omega (arith, h, (call_checked t stream at e).2)))
+  unfolding ends_stream
+  ends-outside h =
+      call_cases t stream at (λ (r : Result). ends_stream r.reply ≡ true) check_ends (λ _ _. refl)
+      (λ e before. absurd (omega (arith, (call_checked t stream at e).2)))
 
   inside_goes_on : ends_stream (call t stream at).reply ≡ false → at < length stream
   inside_goes_on e = go (dec_lt at (length stream))

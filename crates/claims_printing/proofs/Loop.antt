@@ -15,7 +15,7 @@ use lib.ListN.{length, take}
 use lib.Dec.{ltb}
 use lib.Seq.{take_all, length-take-le}
 use lib.Ieee.{Float}
-use borrow.Author.Tests.{lt-ltb, le-ltb, eq-eqb}
+use borrow.Author.Tests.{lt-ltb, le-ltb}
 use Rattle.refusal.specs.Table.{refuse_if, first_of}
 use Rattle.refusal.specs.declared.Refusal.{Refusal}
 use Rattle.refusal.specs.declared.Refusal.TheVariants.{Truncated}
@@ -24,6 +24,7 @@ use Rattle.session_commands.specs.Obeyed.{State, state, Result, result}
 use Rattle.session.specs.Call.{max_stream, call_refusal, read, call}
 use Rattle.command.proofs.Decoding.{parse-complete}
 use Rattle.session.proofs.Advancing.{call_advances}
+use Rattle.session.proofs.Calling.{call-read, call_cases}
 use Rattle.session.proofs.PassedCalls.{call_passed}
 use Rattle.listing.specs.Listing.{refusal_line, reply_text, listing_bytes, printed_by}
 use Rattle.claims_streams.specs.Stream.{rest_of, contents_of, Answer, answer, stream_refusal, last_state, answers_of, meaning, ends_stream, calls_from, Usable}
@@ -354,8 +355,24 @@ module _ (t : State) (stream : List ℕ) (at : ℕ) where
 
   -- One call of the session, for one command.
   pub one-call : let r = call t stream at in OneRound t stream at (part r.after r.next (printed_by r))
-  unfolding at_end call reply_text
-  one-call = go (call_refusal t stream at) refl
+  unfolding at_end reply_text
+  one-call =
+      call_cases t stream at (λ (r : Result). OneRound t stream at (part r.after r.next (printed_by r)))
+      (λ _ e.
+      record {
+        goes_on = λ h. absurd (omega arith);
+        advances = λ h. absurd (omega arith);
+        stream_fits = λ h. absurd (omega arith);
+        ends = λ h. rw (e, at_end) refl;
+      })
+      (λ e here.
+      record {
+        goes_on = λ k. absurd (omega arith);
+        advances = λ k. absurd (omega arith);
+        stream_fits = λ k. absurd (omega arith);
+        ends = λ k. rw (e, at_end) (sym (loop-end stream (length stream) t at (omega arith)));
+      })
+      (λ e before. rw (← call-read t stream at e before) (inside e (omega (arith, (call_passed t stream at e).at_inside))))
     where
       r : Result
       r = call t stream at
@@ -378,28 +395,6 @@ module _ (t : State) (stream : List ℕ) (at : ℕ) where
                 ∙ ap (behind (printed_by r)) (sym (loop-end stream (length stream) r.after r.next k))
                 ∙ sym (turn h));
           }
-
-      go : (o : Option Refusal) → call_refusal t stream at ≡ o → OneRound t stream at alone
-      go (Some q) e =
-          rw (e, call)
-          (record {
-            goes_on = λ h. absurd (omega arith);
-            advances = λ h. absurd (omega arith);
-            stream_fits = λ h. absurd (omega arith);
-            ends = λ h. rw (e, at_end) refl;
-          })
-      go None e = within (dec_le (length stream) at)
-        where
-          within : Dec (length stream ≤ at) → OneRound t stream at alone
-          within (no h) = inside e (omega arith)
-          within (yes h) =
-              rw (e, call, eq-eqb at (length stream) (omega (arith, (call_passed t stream at e).at_inside)))
-              (record {
-                goes_on = λ k. absurd (omega arith);
-                advances = λ k. absurd (omega arith);
-                stream_fits = λ k. absurd (omega arith);
-                ends = λ k. rw (e, at_end) (sym (loop-end stream (length stream) t at h));
-              })
 
 -- The same from what the code's answer says.
 pub round_of : {t : State} {stream : List ℕ} {at : ℕ} {answer : StreamText} {buffer first : List Float} {second old new : List ℕ} → listing_bytes ≤ length old

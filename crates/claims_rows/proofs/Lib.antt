@@ -2,3 +2,4 @@
 pub mod Paper
 pub mod FreshRows
 pub mod Rows
+pub mod LowBytes

@@ -29,10 +29,10 @@ abbrev codes : String → List ℕ
 codes text.[] = []
 codes (text.◌∷◌ c s) = code c ∷ codes s
 
-pub paperText-reads :
+pub paper_text-reads :
     paper_text ≡ codes "ok 1 1\nc 0 0 0 0000000000000000 0000000000000000 0000000000000000 0000000000000000 0000000000000000 0000000000000000 3ff0000000000000\nv 0 3ff0000000000000 0000000000000000 0000000000000000 0000000000000000 0000000000000000 0000000000000000 3ff0000000000000\n"
 unfolding paper_text
-paperText-reads = refl
+paper_text-reads = refl
 
 paper_computed : printed (fresh_answers paper_stream) ≡ paper_text
 unfolding printed paper_stream paper_text fresh_answers contents_of contents_from parse answers_of answers answer_to state_after_all ending_reply command_refusal reply_to state_after average_isometries root_of mul_pose is_held spots layers layers_to start_spot next_spot is_placed parent_of links_of to_bits of_bits of_int add sub mul div lt eq reply_text solved_text ok_line camera_line_at view_line_at camera_line view_line decimal_text float_text decimal_within

@@ -2,10 +2,9 @@
 -- `stream_without`), and the lines that they print (`lines_without`), wherever no entry is false; and every session without a summary is met so (`every_plain`).
 -- Assumes nothing.
 use Prim.Native.Nat.{ℕ, zero, suc, ◌+◌}
-use native.Mathlib.Decide.{ℕ_discrete}
-use mathlib.Core.Path.{◌≡◌, refl, sym, ap, subst, ◌∙◌}
+use mathlib.Core.Path.{◌≡◌, refl, sym, ap, ◌∙◌}
 use mathlib.Core.Bool.{Bool, true, false, not, ◌&&◌, ◌||◌}
-use Rattle.std.specs.Prelude.{Option, None, Some}
+use Rattle.std.specs.Prelude.{None, Some}
 use mathlib.Core.List.{List, [], ◌∷◌, ◌++◌, map}
 use lib.ListN.{length}
 use lib.Dec.{eqb, ltb}
@@ -17,11 +16,11 @@ use Rattle.command.specs.Command.{Command, edit, solve, Parsed, complete, broken
 use Rattle.shared_counts.specs.Summary.{summary_of}
 use Rattle.shared_counts.proofs.Summaries.{is_summary_of_summary, summary_of_nothing}
 use Rattle.session_record.specs.Session.{fresh, held_of, summed as summedOf, buffer_length, possible, possible_held}
-use Rattle.session_commands.specs.Commands.{command_refusal, session_after}
+use Rattle.session_commands.specs.Commands.{session_after}
 use Rattle.session_commands.specs.Obeyed.{State, state, Result, first_length, second_length, reply_to, first_after, second_after, state_after, obeyed}
 use Rattle.session.specs.Call.{max_stream, call_refusal, read, call}
-use Rattle.session_commands.proofs.Obeying.{obeyed-refused, obeyed-accepted}
-use Rattle.session.proofs.Calling.{call-refused, call_end, call-read}
+use Rattle.session_commands.proofs.Obeying.{obeyed_cases}
+use Rattle.session.proofs.Calling.{call_cases}
 use Rattle.listing.specs.Listing.{reply_text}
 use Rattle.claims_streams.specs.Stream.{Answer, answer, ends_stream, meaning, calls_from, calls}
 use Rattle.claims_streams.specs.CallDemand1.{TrueEntries}
@@ -84,14 +83,10 @@ module _ (t : State) (holds : Summed t) where
   same_obeyed : (stream : List ℕ) (at : ℕ) (command : Command) (width : ℕ)
       → forgotten (obeyed t command (at + width)) ≡ plain_read (plain_of t) stream at (complete command width)
   unfolding plain_read
-  same_obeyed stream at command width = go (command_refusal (held_of t.session) t.buffer command) refl
-    where
-      go : (o : Option Refusal) → command_refusal (held_of t.session) t.buffer command ≡ o
-          → forgotten (obeyed t command (at + width)) ≡ plain_read (plain_of t) stream at (complete command width)
-      go (Some r) e = rw (e, plain_read) (ap forgotten (obeyed-refused t command (at + width) r e))
-      go None e =
-          rw (e, plain_read)
-          (ap forgotten (obeyed-accepted t command (at + width) e) ∙ ap (λ (u : PlainState). plain_result (reply_to command) u (at + width)) (same_after command))
+  same_obeyed stream at command width =
+      obeyed_cases t command (at + width) (λ (r : Result). forgotten r ≡ plain_read (plain_of t) stream at (complete command width))
+      (λ r e. rw (e, plain_read) refl)
+      (λ e. rw (e, plain_read) (ap (λ (u : PlainState). plain_result (reply_to command) u (at + width)) (same_after command)))
 
   same_read : (stream : List ℕ) (at : ℕ) (p : Parsed) → forgotten (read t stream at p) ≡ plain_read (plain_of t) stream at p
   unfolding read plain_read
@@ -101,15 +96,11 @@ module _ (t : State) (holds : Summed t) where
 
   -- Nothing but the summary tells the two calls apart.
   one-call : (stream : List ℕ) (at : ℕ) → forgotten (call t stream at) ≡ plain_call (plain_of t) stream at
-  one-call stream at = go (call_refusal t stream at) refl (ℕ_discrete at (length stream))
-    where
-      go : (o : Option Refusal) → call_refusal t stream at ≡ o → Dec (at ≡ length stream) → forgotten (call t stream at) ≡ plain_call (plain_of t) stream at
-      go (Some r) e d = ap forgotten (call-refused t stream at r e) ∙ sym (plain-refused (plain_of t) stream at r (sym (same_refusal stream at) ∙ e))
-      go None e (yes h) = ap forgotten (call_end t stream at e h) ∙ sym (plain_end (plain_of t) stream at (sym (same_refusal stream at) ∙ e) h)
-      go None e (no h) =
-          ap forgotten (call-read t stream at e h)
-          ∙ same_read stream at (parse stream at)
-          ∙ sym (plain-read (plain_of t) stream at (sym (same_refusal stream at) ∙ e) h)
+  one-call stream at =
+      call_cases t stream at (λ (r : Result). forgotten r ≡ plain_call (plain_of t) stream at)
+      (λ r e. sym (plain-refused (plain_of t) stream at r (sym (same_refusal stream at) ∙ e)))
+      (λ e h. sym (plain_end (plain_of t) stream at (sym (same_refusal stream at) ∙ e) h))
+      (λ e h. same_read stream at (parse stream at) ∙ sym (plain-read (plain_of t) stream at (sym (same_refusal stream at) ∙ e) h))
 
   summed_edited : (command : Command) → Summed (state_after t command)
   unfolding state_after session_after
@@ -117,11 +108,7 @@ module _ (t : State) (holds : Summed t) where
   summed_edited solve = holds
 
   summed-obeyed : (command : Command) (next : ℕ) → Summed (obeyed t command next).after
-  summed-obeyed command next = go (command_refusal (held_of t.session) t.buffer command) refl
-    where
-      go : (o : Option Refusal) → command_refusal (held_of t.session) t.buffer command ≡ o → Summed (obeyed t command next).after
-      go (Some r) e = subst (λ (x : Result). Summed x.after) (sym (obeyed-refused t command next r e)) holds
-      go None e = subst (λ (x : Result). Summed x.after) (sym (obeyed-accepted t command next e)) (summed_edited command)
+  summed-obeyed command next = obeyed_cases t command next (λ (r : Result). Summed r.after) (λ _ _. holds) (λ _. summed_edited command)
 
   summed-read : (stream : List ℕ) (at : ℕ) (p : Parsed) → Summed (read t stream at p).after
   unfolding read
@@ -131,12 +118,8 @@ module _ (t : State) (holds : Summed t) where
 
   -- And it is the masks' again after the call.
   summed-after : (stream : List ℕ) (at : ℕ) → Summed (call t stream at).after
-  summed-after stream at = go (call_refusal t stream at) refl (ℕ_discrete at (length stream))
-    where
-      go : (o : Option Refusal) → call_refusal t stream at ≡ o → Dec (at ≡ length stream) → Summed (call t stream at).after
-      go (Some r) e d = subst (λ (x : Result). Summed x.after) (sym (call-refused t stream at r e)) holds
-      go None e (yes h) = subst (λ (x : Result). Summed x.after) (sym (call_end t stream at e h)) holds
-      go None e (no h) = subst (λ (x : Result). Summed x.after) (sym (call-read t stream at e h)) (summed-read stream at (parse stream at))
+  summed-after stream at =
+      call_cases t stream at (λ (r : Result). Summed r.after) (λ _ _. holds) (λ _ _. holds) (λ _ _. summed-read stream at (parse stream at))
 
 -- ---- whole streams
 

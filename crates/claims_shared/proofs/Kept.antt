@@ -1,7 +1,6 @@
 -- Where accepted commands could leave the record, they could after every call (`call-left`), after every answer of a stream (`stream-left`) and after every
 -- call of the whole-stream entry (`part_left`): so no entry is ever false again (`call_summarises`, and the same of the others). Assumes nothing.
 use Prim.Native.Nat.{ℕ, zero, suc, ◌+◌, ◌-◌}
-use native.Mathlib.Decide.{ℕ_discrete}
 use mathlib.Core.Path.{◌≡◌, refl, sym, subst}
 use mathlib.Core.Bool.{Bool, true, false, ◌&&◌, cond}
 use Rattle.std.specs.Prelude.{Option, None, Some}
@@ -10,12 +9,11 @@ use lib.ListN.{length}
 use lib.Dec.{ltb, leb}
 use Rattle.refusal.specs.declared.Refusal.{Refusal}
 use Rattle.command.specs.Command.{Command, Parsed, complete, broken, unknown, parse}
-use Rattle.session_record.specs.Session.{held_of}
-use Rattle.session_commands.specs.Commands.{Left, left_after, command_refusal}
+use Rattle.session_commands.specs.Commands.{Left, left_after}
 use Rattle.session_commands.specs.Obeyed.{State, Result, state_after, obeyed}
 use Rattle.session.specs.Call.{call, call_refusal, read}
-use Rattle.session_commands.proofs.Obeying.{obeyed-refused, obeyed-accepted}
-use Rattle.session.proofs.Calling.{call-refused, call_end, call-read}
+use Rattle.session_commands.proofs.Obeying.{obeyed_cases}
+use Rattle.session.proofs.Calling.{call_cases}
 use Rattle.listing.specs.Listing.{listing_bytes, printed_by, refusal_line}
 use Rattle.stream_text.specs.StreamText.{Part, part, behind, part_within, part_from, text_refusal, part_in}
 use Rattle.claims_streams.specs.Stream.{Answer, ends_stream, meaning, calls_from, calls}
@@ -29,11 +27,7 @@ LeftIn t = Left t.session
 module _ (t : State) (left : LeftIn t) where
   left-obeyed : (command : Command) (next : ℕ) → LeftIn (obeyed t command next).after
   unfolding state_after
-  left-obeyed command next = go (command_refusal (held_of t.session) t.buffer command) refl
-    where
-      go : (o : Option Refusal) → command_refusal (held_of t.session) t.buffer command ≡ o → LeftIn (obeyed t command next).after
-      go (Some r) e = subst (λ (x : Result). LeftIn x.after) (sym (obeyed-refused t command next r e)) left
-      go None e = subst (λ (x : Result). LeftIn x.after) (sym (obeyed-accepted t command next e)) (left_after t.buffer command left e)
+  left-obeyed command next = obeyed_cases t command next (λ (r : Result). LeftIn r.after) (λ _ _. left) (left_after t.buffer command left)
 
   left-read : (stream : List ℕ) (at : ℕ) (p : Parsed) → LeftIn (read t stream at p).after
   unfolding read
@@ -42,12 +36,7 @@ module _ (t : State) (left : LeftIn t) where
   left-read stream at (unknown byte) = left
 
   pub call-left : (stream : List ℕ) (at : ℕ) → LeftIn (call t stream at).after
-  call-left stream at = go (call_refusal t stream at) refl (ℕ_discrete at (length stream))
-    where
-      go : (o : Option Refusal) → call_refusal t stream at ≡ o → Dec (at ≡ length stream) → LeftIn (call t stream at).after
-      go (Some r) e d = subst (λ (x : Result). LeftIn x.after) (sym (call-refused t stream at r e)) left
-      go None e (yes h) = subst (λ (x : Result). LeftIn x.after) (sym (call_end t stream at e h)) left
-      go None e (no h) = subst (λ (x : Result). LeftIn x.after) (sym (call-read t stream at e h)) (left-read stream at (parse stream at))
+  call-left stream at = call_cases t stream at (λ (r : Result). LeftIn r.after) (λ _ _. left) (λ _ _. left) (λ _ _. left-read stream at (parse stream at))
 
 pub call_summarises : (t : State) → Left t.session → (stream : List ℕ) (at : ℕ) → Summarises (call t stream at).after.session
 call_summarises t left stream at = left_summarises (call-left t left stream at)

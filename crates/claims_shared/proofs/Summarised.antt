@@ -5,7 +5,7 @@ use Prim.Native.Nat.{ℕ, ◌+◌, ◌*◌, ◌^◌, ◌≤◌, ◌<◌}
 use native.Mathlib.Decide.{dec_lt}
 use native.Mathlib.Omega.{arith}
 use mathlib.Core.Path.{◌≡◌, refl, sym, ap, ap₂, ◌∙◌}
-use mathlib.Core.Logic.{◌≢◌, ◌↔◌, ◌⊎◌, ⊎_elim}
+use mathlib.Core.Logic.{◌≢◌, ◌↔◌, ⊎_elim}
 use mathlib.Core.Bool.{Bool, true, false, ◌&&◌}
 use Rattle.std.specs.Prelude.{Option, None, Some}
 use mathlib.Core.List.{List}
@@ -27,7 +27,7 @@ use Rattle.placing.proofs.ViewCells.{holds-in_mask}
 use Rattle.extrinsics.proofs.Solving.{in_mask_past}
 use Rattle.shared_counts.specs.Summary.{summary_of, is_summary}
 use Rattle.shared_counts.proofs.Summaries.{summary_at, summary_symmetric, summary_outside, summary_ones, is_summary_of_summary}
-use Rattle.session_record.specs.Session.{fresh, held_of, rig_of, session_grid, buffer_length, possible, possible_held}
+use Rattle.session_record.specs.Session.{fresh, held_of, rig_of, session_grid, buffer_length, possible, possible_held, possible_sizes, possible_masks}
 use Rattle.session_record.specs.declared.Session.{Session}
 use Rattle.session_record.proofs.PossibleRecords.{possible-held, possible_summary}
 use Rattle.session_commands.specs.Commands.{Left}
@@ -105,6 +105,11 @@ left_summarises {s = s} left = possible_summarises s ((possible-left s (left-six
 both_true : (s : Session) → possible_held (held_of s) ≡ true → is_summary s.masks s.shared ≡ true → possible s ≡ true
 unfolding possible
 both_true s e f = rw (e, f)
+
+-- Of a record whose sizes and masks are possible, the summary alone decides.
+pub possible_by_summary : (s : Session) → possible_sizes (held_of s) ≡ true → possible_masks (held_of s) ≡ true → possible s ≡ is_summary s.masks s.shared
+unfolding possible possible_held
+possible_by_summary s e f = rw (e, f)
 
 -- Of what is held that accepted commands could leave, just the record with true entries is taken.
 pub possible_exactly : (s : Session) → T (possible s) ↔ (T (possible_held (held_of s)) × TrueEntries s)

@@ -1,7 +1,7 @@
 -- States that differ in nothing but floats of cells that are not held stay such, and answer the same, without a new difference in the buffers: one grid
 -- (`grid_alike`), one call (`call-alike`), commands (`answers-alike`, `state-alike`), and whole streams (`meaning-alike`, `calls_alike`). Assumes nothing.
 use Prim.Native.Nat.{ℕ, ◌+◌, ◌*◌, ◌/◌, ◌%◌, ◌<◌}
-use native.Mathlib.Decide.{ℕ_discrete, dec_lt}
+use native.Mathlib.Decide.{dec_lt}
 use native.Mathlib.Omega.{arith}
 use mathlib.Core.Path.{◌≡◌, refl, sym, ap, ap₂, ◌∙◌}
 use mathlib.Core.Bool.{Bool, true, false, not, cond, true≢false}
@@ -28,10 +28,10 @@ use Rattle.command.specs.Command.{Command, edit, solve, Parsed, complete, broken
 use Rattle.session_record.specs.Session.{held_of, cell_start, has_size, rig_of, session_grid}
 use Rattle.session_commands.specs.Commands.{edit_refusal, edit_session, command_refusal, session_after, buffer_after}
 use Rattle.session_commands.specs.Solve.{first_after_solve, second_after_solve}
-use Rattle.session_commands.specs.Obeyed.{State, result, first_after, second_after, state_after}
+use Rattle.session_commands.specs.Obeyed.{State, Result, result, first_after, second_after, state_after}
 use Rattle.session.specs.Call.{max_stream, unusable, call_refusal, read, call}
 use Rattle.session_commands.specs.Reply.{Reply}
-use Rattle.session.proofs.Calling.{call-refused, call_end, call-read}
+use Rattle.session.proofs.Calling.{call-refused, call_end, call-read, call_cases}
 use Rattle.session_record.specs.declared.Session.{Session}
 use Rattle.claims_streams.specs.Stream.{Contents, contents_of, Answer, answer_to, answers, state_after_all, stream_refusal, answers_of, meaning, calls, Usable}
 use Rattle.claims_streams.specs.Alike.{SameHeld, Alike, NoNewDifference, AlikeSince, AnswersAlike, no_answers, one_answer, CallsAlike, Asked, EachAlike}
@@ -228,7 +228,11 @@ module _ (t t' : State) (same : Alike t t') where
   -- One call, whatever the states are: where one is refused, the other is, with the same number and detail.
   pub call-alike : (stream : List ℕ) (at : ℕ) → CallsAlike t.buffer t'.buffer (call t stream at) (call t' stream at)
   unfolding read
-  call-alike stream at = go (call_refusal t stream at) refl
+  call-alike stream at =
+      call_cases t stream at (λ (r : Result). CallsAlike t.buffer t'.buffer r (call t' stream at))
+      (λ r e. rw (call-refused t' stream at r (too e)) (unchanged (Err r) (length stream)))
+      (λ e h. rw (call_end t' stream at (too e) h) (unchanged (Ok End) at))
+      (λ e h. rw (call-read t' stream at (too e) h) (reads (usable_of_call t stream at e).0 (parse stream at)))
     where
       too : {o : Option Refusal} → call_refusal t stream at ≡ o → call_refusal t' stream at ≡ o
       too e = sym (call_refusal-alike stream at) ∙ e
@@ -247,14 +251,6 @@ module _ (t t' : State) (same : Alike t t') where
           })
       reads u broken = unchanged (Err (Truncated at)) (length stream)
       reads u (unknown byte) = unchanged (Err (UnknownCommand byte)) (length stream)
-
-      passes : call_refusal t stream at ≡ None → Dec (at ≡ length stream) → CallsAlike t.buffer t'.buffer (call t stream at) (call t' stream at)
-      passes e (yes h) = rw (call_end t stream at e h, call_end t' stream at (too e) h) (unchanged (Ok End) at)
-      passes e (no h) = rw (call-read t stream at e h, call-read t' stream at (too e) h) (reads (usable_of_call t stream at e).0 (parse stream at))
-
-      go : (o : Option Refusal) → call_refusal t stream at ≡ o → CallsAlike t.buffer t'.buffer (call t stream at) (call t' stream at)
-      go (Some r) e = rw (call-refused t stream at r e, call-refused t' stream at r (too e)) (unchanged (Err r) (length stream))
-      go None e = passes e (ℕ_discrete at (length stream))
 
   -- A whole stream, whatever the states are.
   pub meaning-alike : (stream : List ℕ) → AnswersAlike t.buffer t'.buffer (meaning t stream) (meaning t' stream)

@@ -3,7 +3,6 @@
 -- come to what the call finds (`CallWords`), list after list in the papers' order; what a call leaves that is not refused is in `AcceptedCalls`.
 -- Assumes nothing.
 use Prim.Native.Nat.{ℕ, ◌+◌, ◌≤◌, ◌<◌}
-use native.Mathlib.Nat.{eq-or-lt_of_le}
 use native.Mathlib.Omega.{arith}
 use mathlib.Core.Path.{◌≡◌, refl, sym, ap, subst, ◌∙◌}
 use mathlib.Core.Logic.{◌⊎◌, inl, inr, ⊎_elim}
@@ -19,16 +18,16 @@ use Rattle.refusal.specs.declared.Refusal.TheVariants.{UnknownCommand, Truncated
 use Rattle.claims_direct.specs.Deciding.{Check, Decides, AllSilent}
 use Rattle.claims_direct.proofs.GridRefusals.{or_else_none}
 use Rattle.lists.proofs.Tests.{or-false}
-use Rattle.command.specs.Command.{size, place, withdraw, Command, edit, solve, size_byte, pose_byte, solve_byte, withdraw_byte, size_width, pose_width, solve_width, withdraw_width, complete, parse, offered_pose}
+use Rattle.command.specs.Command.{size, place, withdraw, Command, edit, solve, size_byte, pose_byte, solve_byte, withdraw_byte, size_width, pose_width, solve_width, withdraw_width, parse, offered_pose}
 use Rattle.session_record.specs.Session.{held_of}
 use Rattle.session_commands.specs.Commands.{command_refusal, Left}
 use Rattle.session_commands.specs.Obeyed.{State, state, result, reply_to, state_after, obeyed}
-use Rattle.session.specs.Call.{call_refusal, read, call, Called}
+use Rattle.session.specs.Call.{call_refusal, stopped, read, call, Called}
 use Rattle.session.specs.Inner.Steps.{result_of}
 use Rattle.session_commands.specs.Reply.{Reply}
 use Rattle.session.specs.declared.Step.{Step}
-use Rattle.session_commands.proofs.Obeying.{obeyed-refused, obeyed-accepted}
-use Rattle.session.proofs.Calling.{call-refused, call_end, call-read}
+use Rattle.session_commands.proofs.Obeying.{obeyed_cases}
+use Rattle.session.proofs.Calling.{call_cases}
 use Rattle.claims_streams.specs.Stream.{Answer, Usable, ends_stream}
 use Rattle.claims_streams.specs.CallDemand1.{when, Begins, BeginsOfWidth, operand, size_command_checks, pose_command_checks, withdraw_command_checks, solve_command_checks, first_checks, reading_checks, command_checks, call_checks, RefusedWith, EndsTheStream, SizeLeaves, PoseLeaves, WithdrawLeaves, SolveLeaves, CallDemand1}
 use Rattle.claims_streams.proofs.CallWords.{comes_first, usable_of_call, Reading, no_command, cut_short, whole-size, whole-pose, whole-withdraw, whole-solve, reading, comes_unknown, comes_cut_short, comes_whole, comes_nothing-read, comes_size, comes_pose, comes_withdraw, comes_solve}
@@ -279,14 +278,13 @@ module _ (t : State) (stream : List ℕ) (at : ℕ) where
           go (inr (_, inr (_, inl (number, _)))) = inr (inr (inl (sym number)))
           go (inr (_, inr (_, inr (_, never)))) = absurd never
 
-      demand_first : CallDemand1 t stream at (call t stream at)
+      demand_first : CallDemand1 t stream at (stopped t stream q)
       unfolding or_else
       demand_first =
           let comes : Comes checks (Some q) =
           comes_append (reading_checks t stream at ++ command_checks t stream at) (first_checks t stream at) (Some q) None
           (subst (Comes (first_checks t stream at)) e (comes_first t sixteen stream at)) (λ f. absurd (some-not-none f)) in
-          subst (CallDemand1 t stream at) (sym (call-refused t stream at q e))
-          (demand_refused q (length stream) comes (λ ending. refl) (λ on. absurd (on first-number)))
+          demand_refused q (length stream) comes (λ ending. refl) (λ on. absurd (on first-number))
 
     module _ (e : call_refusal t stream at ≡ None) where
       -- Nothing before all else: then the checks of reading, and after them the command's.
@@ -298,13 +296,12 @@ module _ (t : State) (stream : List ℕ) (at : ℕ) where
           (subst (Comes (first_checks t stream at)) e (comes_first t sixteen stream at))
           (λ f. comes_append (command_checks t stream at) (reading_checks t stream at) o₁ o₂ reads commands)
 
-      demand_at_end : at ≡ length stream → CallDemand1 t stream at (call t stream at)
+      demand_at_end : at ≡ length stream → CallDemand1 t stream at (result (Ok End) t at)
       unfolding or_else
       demand_at_end here =
-          subst (CallDemand1 t stream at) (sym (call_end t stream at e here))
-          (demand_end
+          demand_end
           (comes_after None None (comes_nothing-read stream at t (omega arith)) (λ f. comes_commands-none (λ byte begins. let l = begins.0 in omega arith)))
-          here)
+          here
 
       module _ (before-end : at < length stream) where
         usable : Usable t
@@ -313,81 +310,71 @@ module _ (t : State) (stream : List ℕ) (at : ℕ) where
         left : Left t.session
         left = (possible-left t.session sixteen).0 usable.record_possible
 
-        reads : call t stream at ≡ read t stream at (parse stream at)
-        reads = call-read t stream at e (omega arith)
-
         -- "10, 11": the stream ends.
-        demand_stopped : (q : Refusal) → Comes (reading_checks t stream at) (Some q) → Ending (number_of q)
-            → call t stream at ≡ result (Err q) t (length stream) → CallDemand1 t stream at (call t stream at)
+        demand_stopped : (q : Refusal) → Comes (reading_checks t stream at) (Some q) → Ending (number_of q) → CallDemand1 t stream at (stopped t stream q)
         unfolding or_else
-        demand_stopped q comes ending called =
-            subst (CallDemand1 t stream at) (sym called)
-            (demand_refused q (length stream) (comes_after (Some q) None comes (λ f. absurd (some-not-none f))) (λ x. refl) (λ on. absurd (on ending)))
+        demand_stopped q comes ending =
+            demand_refused q (length stream) (comes_after (Some q) None comes (λ f. absurd (some-not-none f))) (λ x. refl) (λ on. absurd (on ending))
 
         -- A whole command, refused or not.
         demand_obeyed : (command : Command) (width : ℕ) → BeginsOfWidth stream at width → at + width ≤ length stream
-            → parse stream at ≡ complete command width → Comes (command_checks t stream at) (command_refusal (held_of t.session) t.buffer command)
+            → Comes (command_checks t stream at) (command_refusal (held_of t.session) t.buffer command)
             → (command_refusal (held_of t.session) t.buffer command ≡ None → Comes checks None
             → CallDemand1 t stream at (result (reply_to command) (state_after t command) (at + width)))
-            → CallDemand1 t stream at (call t stream at)
-        unfolding or_else read
-        demand_obeyed command width begins fits parsed commands accepted = go (command_refusal (held_of t.session) t.buffer command) refl
+            → CallDemand1 t stream at (obeyed t command (at + width))
+        unfolding or_else
+        demand_obeyed command width begins fits commands accepted =
+            obeyed_cases t command (at + width) (CallDemand1 t stream at)
+            (λ q f.
+            let goes_on : ends_stream (Err q) ≡ false =
+            ap (λ (a : Answer). ends_stream a.reply) (sym (answer_to-refused t command q f)) ∙ command_goes_on t command in
+            demand_refused q (at + width) (subst (Comes checks) f comes) (λ ending. absurd (goes_on_number q goes_on ending)) (λ on. (width, begins, fits, refl)))
+            (λ f. accepted f (subst (Comes checks) f comes))
           where
-            obeys : call t stream at ≡ obeyed t command (at + width)
-            obeys = reads ∙ ap (read t stream at) parsed
-
             comes : Comes checks (command_refusal (held_of t.session) t.buffer command)
             comes = comes_after None (command_refusal (held_of t.session) t.buffer command) (comes_whole stream at t width begins fits) (λ f. commands)
 
-            go : (o : Option Refusal) → command_refusal (held_of t.session) t.buffer command ≡ o → CallDemand1 t stream at (call t stream at)
-            go None f =
-                subst (CallDemand1 t stream at) (sym (obeys ∙ obeyed-accepted t command (at + width) f)) (accepted f (subst (Comes checks) f comes))
-            go (Some q) f =
-                let goes_on : ends_stream (Err q) ≡ false =
-                ap (λ (a : Answer). ends_stream a.reply) (sym (answer_to-refused t command q f)) ∙ command_goes_on t command in
-                subst (CallDemand1 t stream at) (sym (obeys ∙ obeyed-refused t command (at + width) q f))
-                (demand_refused q (at + width) (subst (Comes checks) f comes) (λ ending. absurd (goes_on_number q goes_on ending)) (λ on. (width, begins, fits, refl)))
-
-        demand_reading : Reading stream at → CallDemand1 t stream at (call t stream at)
+        demand_reading : Reading stream at → CallDemand1 t stream at (read t stream at (parse stream at))
         unfolding command_refusal read reply_to
         demand_reading (no_command byte parsed begins no_byte) =
-            demand_stopped (UnknownCommand byte) (comes_unknown stream at t byte begins no_byte) (inr (inl refl)) (reads ∙ ap (read t stream at) parsed)
+            rw parsed (demand_stopped (UnknownCommand byte) (comes_unknown stream at t byte begins no_byte) (inr (inl refl)))
         demand_reading (cut_short width parsed begins short) =
-            demand_stopped (Truncated at) (comes_cut_short stream at t width begins short) (inr (inr (inl refl))) (reads ∙ ap (read t stream at) parsed)
+            rw parsed (demand_stopped (Truncated at) (comes_cut_short stream at t width begins short) (inr (inr (inl refl))))
         demand_reading (whole-size parsed begins fits) =
             let command = edit (size (operand stream at 1) (operand stream at 2) (operand stream at 3)) in
-            demand_obeyed command size_width (inl (begins, refl)) fits parsed (comes_commands-size begins _ (comes_size stream at t left))
+            rw parsed
+            (demand_obeyed command size_width (inl (begins, refl)) fits (comes_commands-size begins _ (comes_size stream at t left))
             (λ passes comes.
             demand_accepted comes (state_after t command) size_width (inl begins) (inl (begins, refl)) fits (λ own. size-leaves t stream at)
-            (λ other. absurd (other_byte size_byte pose_byte (omega arith) begins other)) (λ other. absurd (other_byte size_byte withdraw_byte (omega arith) begins other)))
+            (λ other. absurd (other_byte size_byte pose_byte (omega arith) begins other)) (λ other. absurd (other_byte size_byte withdraw_byte (omega arith) begins other))))
         demand_reading (whole-pose parsed begins fits) =
             let command = edit (place (operand stream at 1) (operand stream at 2) (offered_pose stream (at + 3))) in
-            demand_obeyed command pose_width (inr (inl (begins, refl))) fits parsed (comes_commands-pose begins _ (comes_pose stream at t left))
+            rw parsed
+            (demand_obeyed command pose_width (inr (inl (begins, refl))) fits (comes_commands-pose begins _ (comes_pose stream at t left))
             (λ passes comes.
             demand_accepted comes (state_after t command) pose_width (inr (inl begins)) (inr (inl (begins, refl))) fits
             (λ other. absurd (other_byte pose_byte size_byte (omega arith) begins other)) (λ own. pose-leaves t stream at usable sixteen passes)
-            (λ other. absurd (other_byte pose_byte withdraw_byte (omega arith) begins other)))
+            (λ other. absurd (other_byte pose_byte withdraw_byte (omega arith) begins other))))
         demand_reading (whole-withdraw parsed begins fits) =
             let command = edit (withdraw (operand stream at 1) (operand stream at 2)) in
-            demand_obeyed command withdraw_width (inr (inr (inr (begins, refl)))) fits parsed (comes_commands-withdraw begins _ (comes_withdraw stream at t left))
+            rw parsed
+            (demand_obeyed command withdraw_width (inr (inr (inr (begins, refl)))) fits (comes_commands-withdraw begins _ (comes_withdraw stream at t left))
             (λ passes comes.
             demand_accepted comes (state_after t command) withdraw_width (inr (inr begins)) (inr (inr (inr (begins, refl)))) fits
             (λ other. absurd (other_byte withdraw_byte size_byte (omega arith) begins other))
-            (λ other. absurd (other_byte withdraw_byte pose_byte (omega arith) begins other)) (λ own. withdraw-leaves t stream at usable sixteen passes))
+            (λ other. absurd (other_byte withdraw_byte pose_byte (omega arith) begins other)) (λ own. withdraw-leaves t stream at usable sixteen passes)))
         demand_reading (whole-solve parsed begins fits) =
-            demand_obeyed solve solve_width (inr (inr (inl (begins, refl)))) fits parsed
-            (comes_commands-solve begins _ (comes_solve t usable left stream at))
-            (λ passes comes. demand_solved comes (state_after t solve) begins fits (solve-leaves t usable passes))
+            rw parsed
+            (demand_obeyed solve solve_width (inr (inr (inl (begins, refl)))) fits (comes_commands-solve begins _ (comes_solve t usable left stream at))
+            (λ passes comes. demand_solved comes (state_after t solve) begins fits (solve-leaves t usable passes)))
 
 -- Whatever the state, the stream and the offset; 16 masks is what the record's type says.
 pub call_demand_1 : (t : State) (stream : List ℕ) (at : ℕ) → length t.session.masks ≡ 16 → CallDemand1 t stream at (call t stream at)
-call_demand_1 t stream at sixteen = go (call_refusal t stream at) refl
-  where
-    go : (o : Option Refusal) → call_refusal t stream at ≡ o → CallDemand1 t stream at (call t stream at)
-    go (Some q) e = demand_first t stream at sixteen q e
-    go None e =
-        ⊎_elim (demand_at_end t stream at sixteen e) (λ before. demand_reading t stream at sixteen e before (reading stream at before))
-        (eq-or-lt_of_le (usable_of_call t stream at e).1)
+call_demand_1 t stream at sixteen =
+    call_cases t stream at (CallDemand1 t stream at) (demand_first t stream at sixteen) (demand_at_end t stream at sixteen)
+    (λ e h.
+    let before : at < length stream = omega (arith, (usable_of_call t stream at e).1) in
+    demand_reading t stream at sixteen e before (reading stream at before))
 
 -- So for the code's own answer, and the memory lent to it: what `obey` ensures is demand 1.
 pub called_demand_1 : (t : State) (stream : List ℕ) (at : ℕ) (step : Step) (buffer first : List Float) (second : List ℕ)

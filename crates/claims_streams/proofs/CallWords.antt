@@ -192,11 +192,11 @@ module _ (stream : List ℕ) (at : ℕ) where
   one_width : (width width' : ℕ) → BeginsOfWidth stream at width → BeginsOfWidth stream at width' → width ≡ width'
   one_width w w' begins begins' = let same : ◌≡◌ {A = Option ℕ} (Some w) (Some w') = sym (width_of_words w begins) ∙ width_of_words w' begins' in cc
 
-  known_byte : (width byte : ℕ) → BeginsOfWidth stream at width → Begins stream at byte → Unknown byte → ⊥
-  known_byte width byte (inl ((_, b), _)) (_, e) (z, p, s, t) = z (sym e ∙ b)
-  known_byte width byte (inr (inl ((_, b), _))) (_, e) (z, p, s, t) = p (sym e ∙ b)
-  known_byte width byte (inr (inr (inl ((_, b), _)))) (_, e) (z, p, s, t) = s (sym e ∙ b)
-  known_byte width byte (inr (inr (inr ((_, b), _)))) (_, e) (z, p, s, t) = t (sym e ∙ b)
+  known_byte : (width first : ℕ) → BeginsOfWidth stream at width → Begins stream at first → Unknown first → ⊥
+  known_byte width first (inl ((_, b), _)) (_, e) (z, p, s, t) = z (sym e ∙ b)
+  known_byte width first (inr (inl ((_, b), _))) (_, e) (z, p, s, t) = p (sym e ∙ b)
+  known_byte width first (inr (inr (inl ((_, b), _)))) (_, e) (z, p, s, t) = s (sym e ∙ b)
+  known_byte width first (inr (inr (inr ((_, b), _)))) (_, e) (z, p, s, t) = t (sym e ∙ b)
 
   module _ (t : State) where
     pub comes_unknown : (byte : ℕ) → Begins stream at byte → Unknown byte → Comes (reading_checks t stream at) (Some (UnknownCommand byte))

@@ -38,10 +38,10 @@ module _ (t : State) (u : Usable t) (stream : List ℕ) (short : length stream �
   last = answer (ending_reply (contents_of stream).ending) (state_after_all t (contents_of stream).commands)
 
   -- "The library obeys one command per call": the answers before it, its own, and those after it.
-  pub calls-around-solve :
+  pub calls_around-solve :
       calls t stream ≡ answers t before ++ (answer_to then solve ∷ (answers (answer_to then solve).after after ++ (last ∷ [])))
   unfolding answers_of
-  calls-around-solve =
+  calls_around-solve =
       calls_give_answers t stream short u
       ∙ ap (λ (l : List Answer). l ++ (last ∷ []))
       (ap (answers t) held ∙ answers-append t before (solve ∷ after) ∙ ap (λ (l : List Answer). answers t before ++ l) (answers-command then solve after))
@@ -50,7 +50,7 @@ module _ (t : State) (u : Usable t) (stream : List ℕ) (short : length stream �
   -- So the answer after those of the commands before it is Solve's.
   pub answer_of_solve : (outside : Answer) → get_or (calls t stream) (length before) outside ≡ answer_to then solve
   answer_of_solve outside =
-      ap (λ (l : List Answer). get_or l (length before) outside) calls-around-solve
+      ap (λ (l : List Answer). get_or l (length before) outside) calls_around-solve
       ∙ get_or_at (answers t before) (answer_to then solve) (answers (answer_to then solve).after after ++ (last ∷ [])) outside (length before)
       (length-answers before t)
 
@@ -67,6 +67,6 @@ module _ (t : State) (u : Usable t) (stream : List ℕ) (short : length stream �
         subst (AsDemanded then) (sym (answer_of_solve outside))
         (record {
           as_direct = direct;
-          demand-2 = solve_demand_2 then (usable_after_all before t u) some_view finite direct;
+          demand_2 = solve_demand_2 then (usable_after_all before t u) some_view finite direct;
           demand_3 = solve_demand_3 then (usable_after_all before t u) some_view finite direct;
         })

@@ -1,7 +1,6 @@
 -- What the check for 5 asks of a record, as plain facts, and what follows from them. Assumes nothing.
-use Prim.Native.Nat.{ℕ, zero, suc, ◌^◌, ◌≤◌, ◌<◌}
+use Prim.Native.Nat.{ℕ, ◌^◌, ◌≤◌, ◌<◌}
 use native.Mathlib.Decide.{dec_lt}
-use native.Mathlib.Nat.{eq-or-lt_of_le, le_of_suc-le-suc}
 use native.Mathlib.Omega.{arith}
 use mathlib.Core.Path.{◌≡◌, refl, sym, ap, subst}
 use mathlib.Core.Logic.{◌↔◌, ◌⊎◌, inl, inr, ⊎_elim}
@@ -14,7 +13,7 @@ use Rattle.refusal.specs.declared.Refusal.{Refusal}
 use Rattle.limits.specs.Limits.{max_views, max_cameras}
 use Rattle.inputs.specs.Inputs.{size_refusal}
 use Rattle.inputs.proofs.Answering.{Sizes, size_refusal-none, size_refusal-sizes}
-use Rattle.lists.specs.Finding.{all_below}
+use Rattle.lists.proofs.AllBelow.{all_below_at, all_below_each}
 use Rattle.shared_counts.specs.Summary.{summary_of, is_summary}
 use Rattle.shared_counts.proofs.Summaries.{summary_of_is_summary, is_summary_of_summary, summary_of_nothing}
 use Rattle.session_record.specs.Session.{held_of, session_of, summed, fresh, possible_sizes, mask_fits, possible_masks, possible_held, possible}
@@ -51,19 +50,6 @@ T-is_none : (o : Option Refusal) → T (is_none o) ↔ (o ≡ None)
 T-is_none None = (λ t. refl, λ e. tt)
 T-is_none (Some r) = (λ t. absurd t, λ e. let f : true ≡ false = cc in subst T f tt)
 
-all_below_each : (test : ℕ → Bool) (n : ℕ) → T (all_below test n) ↔ ((i : ℕ) → i < n → T (test i))
-unfolding all_below
-all_below_each test zero = (λ t i l. absurd (omega arith), λ h. tt)
-all_below_each test (suc n) = (forth (all_below_each test n).0, back (all_below_each test n).1)
-  where
-    forth : (T (all_below test n) → (i : ℕ) → i < n → T (test i)) → T (all_below test n && test n) → (i : ℕ) → i < suc n → T (test i)
-    forth f t i l =
-        let (below, last) = (T_and (all_below test n) (test n)).0 t in
-        ⊎_elim (λ e. rw e last) (λ k. f below i k) (eq-or-lt_of_le (le_of_suc-le-suc l))
-
-    back : (((i : ℕ) → i < n → T (test i)) → T (all_below test n)) → ((i : ℕ) → i < suc n → T (test i)) → T (all_below test n && test n)
-    back f h = (T_and (all_below test n) (test n)).1 (f (λ i l. h i (omega arith)), h n (omega arith))
-
 module _ (s : Session) where
   abbrev no_sizes : Bool
   no_sizes = eqb s.views 0 && eqb s.cameras 0 && eqb s.reference 0
@@ -98,7 +84,7 @@ module _ (s : Session) where
   masks_fact = (forth, back)
     where
       one : (c : ℕ) → T (possible_masks (held_of s)) → c < max_cameras → get_or s.masks c 0 < bound c
-      one c t l = ltb→lt _ _ ((all_below_each (mask_fits (held_of s)) max_cameras).0 t c l)
+      one c t l = ltb→lt _ _ (true_T _ (all_below_at (mask_fits (held_of s)) max_cameras c (T_true _ t) l))
 
       forth : T (possible_masks (held_of s))
           → (((c : ℕ) → c < max_cameras → c < s.cameras → get_or s.masks c 0 < 2 ^ s.views)
@@ -110,7 +96,7 @@ module _ (s : Session) where
 
       back : ((c : ℕ) → c < max_cameras → c < s.cameras → get_or s.masks c 0 < 2 ^ s.views)
           × ((c : ℕ) → c < max_cameras → s.cameras ≤ c → get_or s.masks c 0 ≡ 0) → T (possible_masks (held_of s))
-      back (inside, outside) = (all_below_each (mask_fits (held_of s)) max_cameras).1 (λ c l. go c l (dec_lt c s.cameras))
+      back (inside, outside) = true_T _ (all_below_each (mask_fits (held_of s)) max_cameras (λ c l. T_true _ (go c l (dec_lt c s.cameras))))
         where
           go : (c : ℕ) → c < max_cameras → Dec (c < s.cameras) → T (mask_fits (held_of s) c)
           go c l (yes k) = lt→ltb (get_or s.masks c 0) (bound c) (rw (lt-ltb c s.cameras k) (inside c l k))

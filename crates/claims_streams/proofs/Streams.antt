@@ -25,6 +25,7 @@ use Rattle.session_record.specs.Session.{held_of, has_size, session_grid}
 use Rattle.session_commands.specs.Commands.{command_refusal}
 use Rattle.session_commands.specs.Obeyed.{State, Result, result, reply_to, obeyed}
 use Rattle.session.specs.Call.{max_stream, call_refusal, stopped, read, call, unusable}
+use Rattle.session_commands.proofs.Obeying.{obeyed_cases}
 use Rattle.claims_streams.specs.Stream.{Contents, contents, contents_from, rest_of, contents_of, Answer, answer, answer_to, answers, state_after_all, last_state, stream_refusal, ending_reply, answers_of, meaning, ends_stream, calls_from, calls, Usable}
 use Rattle.session_record.specs.declared.Session.{Session}
 use Rattle.command.proofs.Decoding.{parse-complete}
@@ -134,13 +135,9 @@ usable_of_passes t stream e =
 
 -- A command is obeyed or refused as its answer says.
 pub obeyed-answer_to : (t : State) (command : Command) (next : ℕ) → obeyed t command next ≡ result (answer_to t command).reply (answer_to t command).after next
-unfolding obeyed
-obeyed-answer_to t command next = go (command_refusal (held_of t.session) t.buffer command) refl
-  where
-    go : (o : Option Refusal) → command_refusal (held_of t.session) t.buffer command ≡ o
-        → obeyed t command next ≡ result (answer_to t command).reply (answer_to t command).after next
-    go None e = rw (e, obeyed, answer_to-accepted t command e)
-    go (Some r) e = rw (e, obeyed, answer_to-refused t command r e)
+obeyed-answer_to t command next =
+    obeyed_cases t command next (λ (r : Result). r ≡ result (answer_to t command).reply (answer_to t command).after next)
+    (λ r e. rw (answer_to-refused t command r e) refl) (λ e. rw (answer_to-accepted t command e) refl)
 
 -- ---- calls in a row
 

@@ -5,7 +5,7 @@ use native.Mathlib.Omega.{arith}
 use mathlib.Core.Path.{◌≡◌, refl, sym, ap, subst, ◌∙◌}
 use mathlib.Core.Logic.{◌⊎◌, ⊎_elim}
 use mathlib.Core.Bool.{Bool, true, false, true≢false}
-use Rattle.std.specs.Prelude.{Option, None, Some}
+use Rattle.std.specs.Prelude.{None}
 use mathlib.Core.List.{List}
 use lib.ListN.{length, get_or, set}
 use lib.Seq.{get_or-set_same, set-get_or, set-set}
@@ -15,7 +15,7 @@ use Rattle.refusal.specs.declared.Refusal.{Refusal}
 use Rattle.refusal.specs.declared.Refusal.TheVariants.{Truncated}
 use Rattle.limits.specs.Limits.{max_cameras}
 use Rattle.lists.specs.Masks.{in_mask}
-use Rattle.command.specs.Command.{Edit, place, withdraw, Command, edit, complete, broken, size_byte, pose_byte, solve_byte, withdraw_byte, pose_width, withdraw_width, offered_pose, width_of, parse}
+use Rattle.command.specs.Command.{Edit, place, withdraw, Command, edit, complete, broken, size_byte, pose_byte, solve_byte, withdraw_byte, pose_width, withdraw_width, offered_pose, parse}
 use Rattle.command.proofs.Decoding.{parse-withdraw}
 use Rattle.session_record.specs.Session.{held_of, summed, with_masks, cell_start}
 use Rattle.session_commands.specs.Pose.{buffer_after_pose}
@@ -23,8 +23,8 @@ use Rattle.session_commands.specs.Commands.{edit_refusal, edit_session, edit_buf
 use Rattle.session_record.specs.declared.Session.{Session}
 use Rattle.session_commands.specs.Obeyed.{State, Result, result, reply_to, state_after, first_after, second_after, obeyed}
 use Rattle.session.specs.Call.{call_refusal, read, call}
-use Rattle.session_commands.proofs.Obeying.{obeyed-refused, obeyed-accepted}
-use Rattle.session.proofs.Calling.{call-refused, call-read}
+use Rattle.session_commands.proofs.Obeying.{obeyed-accepted, obeyed_cases}
+use Rattle.session.proofs.Calling.{call-read, call_cases}
 use Rattle.claims_streams.specs.Stream.{Usable}
 use Rattle.claims_streams.specs.CallDemand1.{Begins, operand}
 use Rattle.claims_streams.specs.Alike.{Alike}
@@ -129,13 +129,9 @@ refused-not-accepted q e = let z : ◌≡◌ {A = ℕ} 0 1 = cc in omega arith
 -- A command that the stream ends within is refused.
 cut_not-accepted : (t : State) (stream : List ℕ) (at : ℕ) → at < length stream → parse stream at ≡ broken → (call t stream at).reply ≡ Ok Accepted → ⊥
 unfolding read
-cut_not-accepted t stream at before-end cut accepted = go (call_refusal t stream at) refl
-  where
-    go : (o : Option Refusal) → call_refusal t stream at ≡ o → ⊥
-    go None e =
-        refused-not-accepted (Truncated at)
-        (sym (ap (λ (r : Result). r.reply) (call-read t stream at e (omega (arith, before-end)) ∙ ap (read t stream at) cut)) ∙ accepted)
-    go (Some q) e = refused-not-accepted q (sym (ap (λ (r : Result). r.reply) (call-refused t stream at q e)) ∙ accepted)
+cut_not-accepted t stream at before-end cut =
+    call_cases t stream at (λ (r : Result). r.reply ≡ Ok Accepted → ⊥) (λ q _. refused-not-accepted q) (λ _ e. absurd (omega arith))
+    (λ _ _. rw cut (refused-not-accepted (Truncated at)))
 
 module _ (t : State) (stream : List ℕ) (at : ℕ) (before-end : at < length stream) (command : Command) (width : ℕ)
     (parsed : parse stream at ≡ complete command width) where
@@ -143,21 +139,15 @@ module _ (t : State) (stream : List ℕ) (at : ℕ) (before-end : at < length st
   unfolding read
   reads e = call-read t stream at e (omega (arith, before-end)) ∙ ap (read t stream at) parsed
 
-  -- A call that is accepted has passed the checks before all else, and its command's own.
-  accepted_passes : (call t stream at).reply ≡ Ok Accepted → (call_refusal t stream at ≡ None) × (command_refusal (held_of t.session) t.buffer command ≡ None)
-  accepted_passes accepted = first (call_refusal t stream at) refl
-    where
-      own : call_refusal t stream at ≡ None → (o : Option Refusal) → command_refusal (held_of t.session) t.buffer command ≡ o
-          → command_refusal (held_of t.session) t.buffer command ≡ None
-      own e None f = f
-      own e (Some q) f =
-          absurd (refused-not-accepted q
-          (sym (ap (λ (r : Result). r.reply) (reads e ∙ obeyed-refused t command (at + width) q f)) ∙ accepted))
+  abbrev PassesIfAccepted : Result → Type 0
+  PassesIfAccepted r = r.reply ≡ Ok Accepted → (call_refusal t stream at ≡ None) × (command_refusal (held_of t.session) t.buffer command ≡ None)
 
-      first : (o : Option Refusal) → call_refusal t stream at ≡ o
-          → (call_refusal t stream at ≡ None) × (command_refusal (held_of t.session) t.buffer command ≡ None)
-      first None e = (e, own e (command_refusal (held_of t.session) t.buffer command) refl)
-      first (Some q) e = absurd (refused-not-accepted q (sym (ap (λ (r : Result). r.reply) (call-refused t stream at q e)) ∙ accepted))
+  -- A call that is accepted has passed the checks before all else, and its command's own.
+  accepted_passes : PassesIfAccepted (call t stream at)
+  unfolding read
+  accepted_passes =
+      call_cases t stream at PassesIfAccepted (λ q _ accepted. absurd (refused-not-accepted q accepted)) (λ _ e. absurd (omega arith))
+      (λ e _. rw parsed (obeyed_cases t command (at + width) PassesIfAccepted (λ q _ accepted. absurd (refused-not-accepted q accepted)) (λ f _. (e, f))))
 
   obeys : call_refusal t stream at ≡ None → command_refusal (held_of t.session) t.buffer command ≡ None
       → call t stream at ≡ result (reply_to command) (state_after t command) (at + width)

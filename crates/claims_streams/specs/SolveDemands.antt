@@ -11,7 +11,7 @@ use Rattle.claims_streams.specs.RustGrids.{rust_grid_of}
 -- In a state, Solve "answers as the direct call would on the grid that masks and buffer hold", and so as both demands ask.
 pub record AsDemanded (t : State) (a : Answer) : Type 0 where
   pub as_direct : AsDirect t a
-  pub demand-2 :
+  pub demand_2 :
       CallAgrees (estimate_extrinsics_from_cam_target_poses (rust_grid_of t.session t.buffer) t.session.reference) t.first t.second
       as_direct.outcome a.after.first a.after.second
   pub demand_3 :

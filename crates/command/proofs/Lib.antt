@@ -1,4 +1,4 @@
--- Laws of words, patterns of doubles, offered poses, framing, decoding, writing and arrays made by calls, beside the proofs of the functions. Assumes nothing.
+-- Laws of words, patterns of doubles, offered poses, framing, decoding and writing, beside the proofs of the functions. Assumes nothing.
 pub mod Words
 pub mod Patterns
 pub mod OfferedPoses
@@ -6,4 +6,3 @@ pub mod Framing
 pub mod Decoding
 pub mod Writing
 pub mod LowBytes
-pub mod MadeArrays

@@ -12,7 +12,7 @@ use Rattle.std.specs.Int.{w64, to_le_bytes}
 use Rattle.std.specs.List.{flat_map}
 use Rattle.arithmetic.specs.Pose.{flat}
 use Rattle.arithmetic.specs.declared.pose.Pose.{Pose}
-use Rattle.putting.specs.Inner.Putting.{Puts}
+use Rattle.putting.specs.Putting.{Puts}
 use Rattle.putting.specs.declared.Writer.{Writer}
 use Rattle.putting.proofs.Putting.{puts_then}
 use Rattle.command.specs.Command.{place, edit, pose_width}

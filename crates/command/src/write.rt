@@ -1,7 +1,7 @@
 // A Pose command put into lent bytes.
 ghost use Rattle.std.specs.Prelude.{◌+◌, ◌≤◌, ◌≡◌, true, length};
 ghost use Rattle.arithmetic.specs.Pose.{finite_pose};
-ghost use Rattle.putting.specs.Inner.Putting.{Puts};
+ghost use Rattle.putting.specs.Putting.{Puts};
 ghost use Rattle.command.specs.Command.{place, edit, pose_width};
 ghost use Rattle.command.specs.Writing.{pose_bytes_of, bytes_of};
 ghost use Rattle.command.specs.Inner.Parts.{pose_bytes};
@@ -15,11 +15,7 @@ fn put_pose(writer: &mut Writer<'_>, pose: Pose)
     requires { (writer.old.used + pose_bytes ≤ length writer.old.bytes.now) × (finite_pose pose ≡ true) }
     ensures { Puts writer.old (pose_bytes_of pose) writer.new }
 {
-    let Pose {
-        translation: t,
-        rotation: q,
-    } = pose;
-    for number in [t.x, t.y, t.z, q.i, q.j, q.k, q.w] {
+    for number in <[f64; 7]>::from(pose) {
         writer.put_bytes(&number.to_le_bytes());
     }
 }

@@ -48,6 +48,7 @@ pub fn read_to_end<C: Clock, R: Read>(
     ensures end { IfOk result (λ n. n < length memory.new → IsAtEnd (R.remaining input.new)) }
     ensures failed { IfErr result IsTold }
 {
+    // Kept: how much is done, beside the memory, since it is the answer.
     let mut done = 0;
     for _ in 0..MOST_CALLS {
         if done == memory.len() {
@@ -68,6 +69,7 @@ pub fn write_whole<C: Clock, W: Write>(clock: &C, output: &mut W, bytes: &[u8]) 
     ensures bytes { OnOk result (Appends (W.contents output.old) (W.contents output.new) bytes.now) }
     ensures failed { IfErr result IsTold }
 {
+    // Kept: how much is done, beside the memory, since it is the answer.
     let mut done = 0;
     for _ in 0..MOST_CALLS {
         if done == bytes.len() {

@@ -5,14 +5,14 @@
 ghost use Rattle.std.specs.Prelude.{◌≤◌, length};
 ghost use Rattle.limits.specs.Limits.{first_needs, second_needs};
 ghost use Rattle.placing.specs.Rig.{rig_grid};
-ghost use Rattle.placing.specs.Inner.Lent.{SameAnswers};
+ghost use Rattle.placing.specs.Lent.{SameAnswers};
 ghost use Rattle.extrinsics.specs.Outcome.{grid_refusal, Answers};
 ghost use Rattle.extrinsics.specs.Direct.{Direct};
 
 pub mod checks;
 
 use chains::layer_cameras;
-use inputs::{camera_count, check_input, masks_of};
+use inputs::{Marks, camera_count, check_input};
 use limits::ONE_VIEW;
 use placing::answer::LentAnswers;
 use placing::grid::{Observations, Rig};
@@ -64,8 +64,13 @@ pub fn estimate_extrinsics_from_cam_target_poses(
     )?;
     let views = counts.len();
     let cameras = camera_count(counts);
+    let marked = Marks {
+        marks,
+        views,
+        cameras,
+    };
     let rig = Rig {
-        masks: masks_of(marks, views, cameras),
+        masks: marked.masks(),
         views,
         cameras,
         reference,

@@ -13,7 +13,7 @@ use borrow.Author.Tests.{le-ltb, le-leb}
 use Rattle.refusal.specs.declared.Refusal.{Refusal}
 use Rattle.command.specs.Command.{pose_width}
 use Rattle.listing.specs.Listing.{refusal_line, listing_bytes}
-use Rattle.putting.specs.Inner.Putting.{Put}
+use Rattle.putting.specs.Putting.{Put}
 use Rattle.telemetry.specs.Frames.{frame_bytes, max_frames, command_bytes, frames_refusal, imported_of, import_leaves}
 use Rattle.telemetry.proofs.Frames.{frames-broken, frames_many, import_refused, import_passed}
 use Rattle.frames.specs.Told.{refusal_of, output_by, error_by, Told}

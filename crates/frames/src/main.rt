@@ -68,6 +68,7 @@ fn read_frames<C: Clock, I: Read>(
     requires { length memory.old ≡ input_bytes }
     ensures { IfOk result Taken }
 {
+    // Kept: how much is kept, beside the memory, since it is in the answer.
     let mut kept = 0;
     let mut whole = 0;
     for _ in 0..MOST_FILLINGS {

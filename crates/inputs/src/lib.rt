@@ -79,31 +79,41 @@ fn check_marks(marks: &[u8]) -> Result<(), Refusal>
     }
 }
 
-// The views in which a camera is marked, as bits.
-#[tactic(auto, unfolding(crate::specs::Inner::Marks::mask_of))]
-fn mask_of(marks: &[u8], views: usize, cameras: usize, camera: usize) -> u64
-    requires { (views ≤ max_views) × (camera < cameras) × (cameras ≤ max_cameras) × (length marks.now ≡ views * cameras) }
-    ensures { result ≡ mask_of marks.now cameras views camera }
-{
-    let mut mask = 0u64;
-    for view in 0..views {
-        if marks[view * cameras + camera] != 0 {
-            mask += 1 << view;
-        }
-    }
-    mask
+// The marks of a grid within the limits: one for each cell, view after view.
+#[derive(Clone, Copy)]
+pub struct Marks<'a> {
+    pub marks: &'a [u8],
+    pub views: usize,
+    pub cameras: usize,
+    ghost whole: { (views ≤ max_views) × (cameras ≤ max_cameras) × (length marks.now ≡ views * cameras) },
 }
 
-// The masks of all cameras.
-pub fn masks_of(marks: &[u8], views: usize, cameras: usize) -> [u64; MAX_CAMERAS]
-    requires { (views ≤ max_views) × (cameras ≤ max_cameras) × (length marks.now ≡ views * cameras) }
-    ensures { (c : ℕ) → c < cameras → get_or result c 0 ≡ mask_of marks.now cameras views c }
-{
-    let mut masks = [0u64; MAX_CAMERAS];
-    for camera in 0..cameras {
-        masks[camera] = mask_of(marks, views, cameras, camera);
+impl Marks<'_> {
+    // The views in which a camera is marked, as bits.
+    #[tactic(auto, unfolding(crate::specs::Inner::Marks::mask_of))]
+    fn mask(&self, camera: usize) -> u64
+        requires { camera < self.now.cameras }
+        ensures { result ≡ mask_of self.now.marks.now self.now.cameras self.now.views camera }
+    {
+        let mut mask = 0u64;
+        for view in 0..self.views {
+            if self.marks[view * self.cameras + camera] != 0 {
+                mask += 1 << view;
+            }
+        }
+        mask
     }
-    masks
+
+    // The masks of all cameras.
+    pub fn masks(&self) -> [u64; MAX_CAMERAS]
+        ensures { (c : ℕ) → c < self.now.cameras → get_or result c 0 ≡ mask_of self.now.marks.now self.now.cameras self.now.views c }
+    {
+        let mut masks = [0u64; MAX_CAMERAS];
+        for camera in 0..self.cameras {
+            masks[camera] = self.mask(camera);
+        }
+        masks
+    }
 }
 
 // The cameras of view 0; none where there are no views.

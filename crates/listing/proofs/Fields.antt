@@ -9,7 +9,7 @@ use Rattle.std.specs.List.{flat_map}
 use Rattle.std.specs.Prelude.{map}
 use lib.ListN.{length, get_or, take, length-append}
 use lib.Ieee.{Float, nan}
-use Rattle.putting.specs.Inner.Putting.{Puts}
+use Rattle.putting.specs.Putting.{Puts}
 use Rattle.putting.specs.declared.Writer.{Writer}
 use Rattle.putting.proofs.Putting.{puts_then}
 use Rattle.listing.specs.Listing.{blank, newline, float_text, fields_text}

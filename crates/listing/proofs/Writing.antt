@@ -6,7 +6,7 @@ use mathlib.Core.Path.{◌≡◌, refl, sym, ◌∙◌}
 use mathlib.Core.List.{List, []}
 use lib.ListN.{length}
 use lib.Seq.{length-take-le}
-use Rattle.putting.specs.Inner.Putting.{Put, Puts}
+use Rattle.putting.specs.Putting.{Put, Puts}
 use Rattle.putting.specs.declared.Writer.{Writer}
 use Rattle.putting.proofs.Putting.{put_length}
 use Rattle.listing.specs.Writing.{Front}

@@ -1,11 +1,10 @@
 // The lines that `rig` prints, and the line of a refusal, which `frames` tells too, made as bytes in lent memory. specs/Listing.antt says which bytes.
-// Kept: fields put by hand, and no `write!`, which promises its bytes only where it answers Ok, and nowhere that it does: a line is promised wherever it fits.
 #![tactic(auto)]
 
 ghost use Rattle.std.specs.Prelude.{◌≡◌, ◌-◌, cond, [], length, leb, Ok};
 ghost use Rattle.session_commands.specs.declared.Done.TheVariants.{Solved};
 ghost use Rattle.listing.specs.Listing.{refusal_line, listing_bytes, sized, written};
-ghost use Rattle.putting.specs.Inner.Putting.{Puts};
+ghost use Rattle.putting.specs.Putting.{Puts};
 
 mod lines;
 mod text;

@@ -1,10 +1,11 @@
 // The lines of a listing, put behind what a writer has written.
+// Kept: put by hand, and no `write!`, which promises its bytes only where it answers Ok, and nowhere that it does: a line is promised wherever it fits.
 ghost use Rattle.std.specs.Prelude.{◌+◌, ◌*◌, ◌≤◌, [], ◌∷◌, length};
 ghost use Rattle.limits.specs.Limits.{max_views, max_cameras, pose_floats, first_needs, second_needs};
 ghost use Rattle.lists.specs.Lists.{gather};
 ghost use Rattle.listing.specs.Listing.{refusal_line, ok_line, pose_fields, camera_line, view_line, camera_line_at, view_line_at, solved_text, listing_bytes};
 ghost use Rattle.listing.specs.Widths.{ok_bytes, camera_bytes, view_bytes};
-ghost use Rattle.putting.specs.Inner.Putting.{Puts};
+ghost use Rattle.putting.specs.Putting.{Puts};
 ghost use Rattle.listing.specs.Inner.Refusals.{refusal_bytes};
 
 use crate::text::{NEWLINE, put_number, put_pose};

@@ -1,11 +1,12 @@
 // Fields of a line, put behind what a writer has written.
+// Kept: put by hand, and no `write!`, which promises its bytes only where it answers Ok, and nowhere that it does: a line is promised wherever it fits.
 ghost use Rattle.std.specs.Prelude.{◌+◌, ◌≤◌, ◌≡◌, ◌∷◌, length};
 ghost use Rattle.std.specs.Float.{binary64};
 ghost use Rattle.std.specs.Float.Ieee.{to_bits};
 ghost use Rattle.limits.specs.Limits.{pose_floats};
 ghost use Rattle.listing.specs.Listing.{blank, decimal_text, float_text, fields_text, pose_fields};
 ghost use Rattle.listing.specs.Widths.{float_bytes, pose_bytes};
-ghost use Rattle.putting.specs.Inner.Putting.{Puts};
+ghost use Rattle.putting.specs.Putting.{Puts};
 
 use arithmetic::pose::Pose;
 use putting::Writer;
@@ -54,11 +55,7 @@ pub(crate) fn put_pose(writer: &mut Writer<'_>, pose: Pose)
     requires { writer.old.used + pose_bytes pose_floats ≤ length writer.old.bytes.now }
     ensures { Puts writer.old (fields_text (pose_fields pose)) writer.new }
 {
-    let Pose {
-        translation: t,
-        rotation: q,
-    } = pose;
-    for number in [t.x, t.y, t.z, q.i, q.j, q.k, q.w] {
+    for number in <[f64; 7]>::from(pose) {
         put_float(writer, number);
     }
     writer.put_byte(NEWLINE);

@@ -1,4 +1,5 @@
 // What an entry answers as one 64-bit number: number times 2^32 plus detail for a refusal, and below 2^32 for everything else.
+// Kept: numbers, since C takes them so; Rattle's own callers get the Results that these are made of.
 ghost use Rattle.std.specs.Prelude.{◌≡◌};
 ghost use Rattle.placer.specs.Code.{code_of, code_of_reply, code_of_shared, code_of_imported};
 

@@ -49,6 +49,7 @@ pub fn rig_average_isometries(poses: &[Pose], mean: &mut [f64; POSE_FLOATS]) -> 
 }
 
 // The direct call. Refuses 1 to 9.
+// Kept: slices apart, as the export of this name has them from C.
 pub fn placer_estimate(
     counts: &[u32],
     marks: &[u8],
@@ -74,6 +75,7 @@ pub fn placer_estimate(
 // cameras, the reference and the summary, all 0 in a fresh session; and `next` is set to where the next command begins. The record is written where Size,
 // Pose or Withdraw is accepted, and nowhere else. Answers 0 at the end of the stream, 1 for a command accepted and 2 for a rig solved. Refuses what
 // the session refuses, and words that are no record with 5.
+// Kept: slices apart, as the export of this name has them from C.
 #[tactic(auto, using(crate::proofs::Records::long_read))]
 pub fn placer_step(
     session: &mut [u64],

@@ -27,6 +27,7 @@ pub extern "C" fn rig_average_isometries(poses: &[Pose], mean: &mut [f64; POSE_F
 }
 
 // The direct call. Refuses 1 to 9.
+// Kept: slices apart, as C lends them.
 #[unsafe(no_mangle)]
 pub extern "C" fn placer_estimate(
     counts: &[u32],
@@ -45,6 +46,7 @@ pub extern "C" fn placer_estimate(
 // cameras, the reference and the summary, all 0 in a fresh session; and `next` is set to where the next command begins. The record is written where Size,
 // Pose or Withdraw is accepted, and nowhere else. Answers 0 at the end of the stream, 1 for a command accepted and 2 for a rig solved. Refuses what
 // the session refuses, and words that are no record with 5.
+// Kept: slices apart, as C lends them.
 #[unsafe(no_mangle)]
 pub extern "C" fn placer_step(
     session: &mut [u64],

@@ -1,4 +1,3 @@
 -- What the functions of `placing` promise each other and their callers; no demand rests on it. Definitions only.
 pub mod Placed
 pub mod Fitting
-pub mod Lent

@@ -1,7 +1,7 @@
 // The two lent answers of a solved rig: the transforms of cameras and then of views, and the chains.
 ghost use Rattle.std.specs.Prelude.{ℕ, ◌*◌, ◌≤◌, ◌<◌, ◌≡◌, IsSome, [], ◌∷◌, ◌++◌, length, get_or, drop};
 ghost use Rattle.arithmetic.specs.Pose.{flat, nowhere};
-ghost use Rattle.limits.specs.Limits.{max_cameras, pose_floats, second_needs};
+ghost use Rattle.limits.specs.Limits.{pose_floats, second_needs};
 ghost use Rattle.lists.specs.Lists.{gather};
 ghost use Rattle.chains.specs.Inner.Trees.{parent_at, links_at};
 ghost use Rattle.placing.specs.Estimate.{rig_se3_target_from};
@@ -15,6 +15,7 @@ use limits::{CHAIN_BYTES, LINKS_PLACE, MAX_CAMERAS, POSE_FLOATS};
 use mean::Average;
 
 // The two answers, lent: where they are written, what a caller lent is written.
+// Kept: that a call hands both back is a clause of each function (`SameAnswers`), since it tells of two moments, and an invariant of one.
 #[derive(Drop)]
 pub struct LentAnswers<'a> {
     pub transforms: &'a mut [f64],
@@ -23,11 +24,15 @@ pub struct LentAnswers<'a> {
 
 // Each camera's seven numbers go into the part of the answer that begins at 7 times its index.
 #[tactic(auto, unfolding(lists::specs::Lists::gather))]
-pub(crate) fn write_cameras(rig_se3_cam: &[Pose; MAX_CAMERAS], cameras: usize, answer: &mut [f64])
-    requires { (cameras ≤ max_cameras) × (pose_floats * cameras ≤ length answer.old) }
-    ensures { answer.new ≡ gather cameras (λ c. flat (get_or rig_se3_cam.now c nowhere)) ++ drop (pose_floats * cameras) answer.old }
+pub(crate) fn write_cameras(
+    seen: &Observations<'_>,
+    rig_se3_cam: &[Pose; MAX_CAMERAS],
+    answer: &mut [f64],
+)
+    requires { pose_floats * seen.now.rig.cameras ≤ length answer.old }
+    ensures { answer.new ≡ gather seen.now.rig.cameras (λ c. flat (get_or rig_se3_cam.now c nowhere)) ++ drop (pose_floats * seen.now.rig.cameras) answer.old }
 {
-    for camera in 0..cameras {
+    for camera in 0..seen.rig.cameras {
         let at = POSE_FLOATS * camera;
         let pose = rig_se3_cam[camera];
         pose.write(&mut answer[at..]);
@@ -57,12 +62,12 @@ pub(crate) fn write_targets(
 
 // A parent and a link count for each camera, all of which have a place.
 #[tactic(auto, unfolding(lists::specs::Lists::gather))]
-pub(crate) fn write_chains(tree: &Tree, cameras: usize, answer: &mut [u8])
-    requires has_room { (cameras ≤ max_cameras) × (second_needs cameras ≤ length answer.old) }
-    requires all_placed { (c : ℕ) → c < cameras → IsSome (get_or tree.now.places c None) }
-    ensures { answer.new ≡ gather cameras (λ c. parent_at tree.now c ∷ links_at tree.now c ∷ []) ++ drop (second_needs cameras) answer.old }
+pub(crate) fn write_chains(seen: &Observations<'_>, tree: &Tree, answer: &mut [u8])
+    requires has_room { second_needs seen.now.rig.cameras ≤ length answer.old }
+    requires all_placed { (c : ℕ) → c < seen.now.rig.cameras → IsSome (get_or tree.now.places c None) }
+    ensures { answer.new ≡ gather seen.now.rig.cameras (λ c. parent_at tree.now c ∷ links_at tree.now c ∷ []) ++ drop (second_needs seen.now.rig.cameras) answer.old }
 {
-    for camera in 0..cameras {
+    for camera in 0..seen.rig.cameras {
         if let Some(place) = tree.places[camera] {
             answer[CHAIN_BYTES * camera] = place.parent;
             answer[CHAIN_BYTES * camera + LINKS_PLACE] = place.links;

@@ -6,7 +6,7 @@ ghost use Rattle.limits.specs.Limits.{first_needs, second_needs};
 ghost use Rattle.chains.specs.Inner.Trees.{parent_at, links_at};
 ghost use Rattle.placing.specs.Rig.{rig_grid};
 ghost use Rattle.placing.specs.Inner.Placed.{Rooted, Written};
-ghost use Rattle.placing.specs.Inner.Lent.{SameAnswers};
+ghost use Rattle.placing.specs.Lent.{SameAnswers};
 
 pub mod answer;
 pub mod grid;
@@ -24,10 +24,9 @@ pub fn write_solved(seen: &Observations<'_>, tree: &Tree, answers: &mut LentAnsw
     ensures written { Written (rig_grid seen.now.rig seen.now.floats.now) (parent_at tree.now) (links_at tree.now) answers.old.transforms.now answers.old.chains.now answers.new.transforms.now answers.new.chains.now }
     ensures same { SameAnswers answers.old answers.new }
 {
-    let cameras = seen.rig.cameras;
     let rig_se3_cam = poses::place_cameras(seen, tree);
-    write_cameras(&rig_se3_cam, cameras, answers.transforms);
-    let at = POSE_FLOATS * cameras;
+    write_cameras(seen, &rig_se3_cam, answers.transforms);
+    let at = POSE_FLOATS * seen.rig.cameras;
     write_targets(seen, &rig_se3_cam, &mut answers.transforms[at..]);
-    write_chains(tree, cameras, answers.chains);
+    write_chains(seen, tree, answers.chains);
 }

@@ -8,7 +8,7 @@ use mathlib.Core.List.{List, [], ◌++◌, append_assoc, append-nil}
 use lib.ListN.{length, take, drop, length-append, length-take, length-drop}
 use lib.Seq.{drop-length, take_at, drop_at, drop-drop, paste-zero}
 use Rattle.lists.specs.Lists.{gather}
-use Rattle.putting.specs.Inner.Putting.{Put, Puts}
+use Rattle.putting.specs.Putting.{Put, Puts}
 use Rattle.putting.specs.declared.Writer.{Writer}
 
 -- ---- in lent memory

@@ -1,2 +1,2 @@
--- What the functions of `putting` promise. Definitions only; its laws are in proofs/.
-pub mod Inner
+-- Bytes put into lent memory. Definitions only; their laws are in proofs/.
+pub mod Putting

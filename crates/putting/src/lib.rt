@@ -12,7 +12,7 @@ pub struct Writer<'a> {
 }
 
 impl<'a> Writer<'a> {
-    ghost use Rattle.putting.specs.Inner.Putting.{Puts};
+    ghost use Rattle.putting.specs.Putting.{Puts};
 
     pub fn new(bytes: &'a mut [u8]) -> Writer<'a>
         ensures same_reference { result.bytes.ghost_name ≡ bytes.entry.ghost_name }

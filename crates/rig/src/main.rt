@@ -5,8 +5,8 @@
 ghost use Rattle.std.specs.Prelude.{IfOk, OnOk};
 ghost use Rattle.std.specs.Io.KnownBytes.{Appends};
 ghost use Rattle.session_record.specs.Session.{fresh};
-ghost use Rattle.session_commands.specs.Inner.Lent.{state_in};
-ghost use Rattle.placing.specs.Inner.Lent.{SameAnswers};
+ghost use Rattle.session_commands.specs.Lent.{state_in};
+ghost use Rattle.placing.specs.Lent.{SameAnswers};
 ghost use Rattle.claims_streams.specs.Stream.{meaning};
 ghost use Rattle.claims_printing.specs.Printed.{printed};
 ghost use Rattle.rig.specs.AllObeyed.{AllObeyed};

@@ -2,25 +2,17 @@
 use Prim.Native.Nat.{ℕ, ◌+◌, ◌<◌}
 use native.Mathlib.Omega.{arith}
 use mathlib.Core.Path.{◌≡◌, refl}
-use Rattle.std.specs.Prelude.{Option, None, Some}
 use mathlib.Core.List.{List}
 use lib.ListN.{length}
-use Rattle.refusal.specs.declared.Refusal.{Refusal}
 use Rattle.command.specs.Command.{Command, Parsed, complete, broken, unknown, parse}
 use Rattle.command.proofs.Decoding.{parse-complete}
-use Rattle.session_record.specs.Session.{held_of}
-use Rattle.session_commands.specs.Commands.{command_refusal}
-use Rattle.session_commands.specs.Obeyed.{State, obeyed}
-use Rattle.session.specs.Call.{call_refusal, read, call}
-use Rattle.session_commands.proofs.Obeying.{obeyed-refused, obeyed-accepted}
-use Rattle.session.proofs.Calling.{call-refused, call-read}
+use Rattle.session_commands.specs.Obeyed.{State, Result, obeyed}
+use Rattle.session.specs.Call.{read, call}
+use Rattle.session_commands.proofs.Obeying.{obeyed_cases}
+use Rattle.session.proofs.Calling.{call_cases}
 
 obeyed-next : (t : State) (command : Command) (next : ℕ) → (obeyed t command next).next ≡ next
-obeyed-next t command next = go (command_refusal (held_of t.session) t.buffer command) refl
-  where
-    go : (o : Option Refusal) → command_refusal (held_of t.session) t.buffer command ≡ o → (obeyed t command next).next ≡ next
-    go (Some r) e = rw (obeyed-refused t command next r e) refl
-    go None e = rw (obeyed-accepted t command next e) refl
+obeyed-next t command next = obeyed_cases t command next (λ (r : Result). r.next ≡ next) (λ _ _. refl) (λ _. refl)
 
 module _ (t : State) (stream : List ℕ) (at : ℕ) (h : at < length stream) where
   read_advances : (p : Parsed) → parse stream at ≡ p → at < (read t stream at p).next
@@ -30,8 +22,5 @@ module _ (t : State) (stream : List ℕ) (at : ℕ) (h : at < length stream) whe
   read_advances (unknown byte) e = h
 
   pub call_advances : at < (call t stream at).next
-  call_advances = go (call_refusal t stream at) refl
-    where
-      go : (o : Option Refusal) → call_refusal t stream at ≡ o → at < (call t stream at).next
-      go (Some r) e = rw (call-refused t stream at r e) h
-      go None e = rw (call-read t stream at e (λ s. omega arith)) (read_advances (parse stream at) refl)
+  call_advances =
+      call_cases t stream at (λ (r : Result). at < r.next) (λ _ _. h) (λ _ e. absurd (omega arith)) (λ _ _. read_advances (parse stream at) refl)

@@ -1,9 +1,10 @@
--- What one call comes to, by what refuses it, and how an equation of results says `Called`. Assumes nothing.
+-- What one call comes to, by what refuses it, what holds of it in each case (`call_cases`), and how an equation of results says `Called`. Assumes nothing.
 use Prim.Native.Nat.{ℕ}
+use native.Mathlib.Decide.{ℕ_discrete}
 use mathlib.Core.Path.{◌≡◌, refl, ap}
 use mathlib.Core.Bool.{cond}
 use lib.Dec.{eqb, ltb}
-use Rattle.std.specs.Prelude.{None, Some, Ok}
+use Rattle.std.specs.Prelude.{Option, None, Some, Ok}
 use mathlib.Core.List.{List, [], ◌∷◌}
 use lib.ListN.{length}
 use lib.Ieee.{Float}
@@ -48,6 +49,19 @@ module _ (t : State) (stream : List ℕ) (at : ℕ) where
   pub call-read : call_refusal t stream at ≡ None → (at ≡ length stream → ⊥) → call t stream at ≡ read t stream at (parse stream at)
   unfolding call
   call-read e h = rw (e, call) (rw (ne_eqb at (length stream) h))
+
+  -- What holds of a refusal before all else, of the end and of what is read holds of what the call comes to.
+  pub call_cases : (P : Result → Type 0)
+      → ((r : Refusal) → call_refusal t stream at ≡ Some r → P (stopped t stream r))
+      → (call_refusal t stream at ≡ None → at ≡ length stream → P (result (Ok End) t at))
+      → (call_refusal t stream at ≡ None → (at ≡ length stream → ⊥) → P (read t stream at (parse stream at)))
+      → P (call t stream at)
+  call_cases P refused ended reads = go (call_refusal t stream at) refl (ℕ_discrete at (length stream))
+    where
+      go : (o : Option Refusal) → call_refusal t stream at ≡ o → Dec (at ≡ length stream) → P (call t stream at)
+      go (Some r) e d = rw (call-refused r e) (refused r e)
+      go None e (yes h) = rw (call_end e h) (ended e h)
+      go None e (no h) = rw (call-read e h) (reads e h)
 
   pub called : (step : Step) (buffer first : List Float) (second : List ℕ) → result_of step buffer first second ≡ call t stream at
       → Called t stream at step buffer first second

@@ -1,9 +1,8 @@
 -- A call that answers Solved has passed its checks, and so a rig within the limits and both its answers stand after it (`call_solved`).
 -- Assumes nothing.
 use Prim.Native.Nat.{ℕ, ◌+◌, ◌≤◌}
-use native.Mathlib.Decide.{ℕ_discrete}
 use native.Mathlib.Omega.{arith}
-use mathlib.Core.Path.{◌≡◌, refl, sym, subst, ◌∙◌}
+use mathlib.Core.Path.{◌≡◌, sym, subst, ◌∙◌}
 use Rattle.std.specs.Prelude.{Option, None, Some, Err, Ok}
 use mathlib.Core.List.{List}
 use lib.ListN.{length, length-append, length-drop}
@@ -16,10 +15,10 @@ use Rattle.command.specs.Command.{Command, edit, solve, Parsed, complete, broken
 use Rattle.session_record.specs.Session.{held_of, session_grid}
 use Rattle.session_commands.specs.Commands.{command_refusal, session_after}
 use Rattle.session_commands.specs.Obeyed.{first_length, second_length, State, Result, reply_to, first_after, second_after, state_after, obeyed}
-use Rattle.session.specs.Call.{call_refusal, read, call}
+use Rattle.session.specs.Call.{read, call}
 use Rattle.session_commands.specs.Reply.{Reply}
-use Rattle.session_commands.proofs.Obeying.{obeyed-refused, obeyed-accepted}
-use Rattle.session.proofs.Calling.{call-refused, call_end, call-read}
+use Rattle.session_commands.proofs.Obeying.{obeyed_cases}
+use Rattle.session.proofs.Calling.{call_cases}
 use Rattle.session.proofs.PassedCalls.{Ready, call_passed}
 use Rattle.session_record.proofs.PossibleRecords.{possible-within, possible-held}
 use Rattle.session_commands.proofs.SolveCommands.{solve_without_size}
@@ -64,11 +63,7 @@ module _ (t : State) (stream : List ℕ) (at : ℕ) (ready : Ready t stream at) 
       }
 
   obeyed-held : (command : Command) (next : ℕ) → HeldIfSolved (obeyed t command next)
-  obeyed-held command next = go (command_refusal (held_of t.session) t.buffer command) refl
-    where
-      go : (o : Option Refusal) → command_refusal (held_of t.session) t.buffer command ≡ o → HeldIfSolved (obeyed t command next)
-      go (Some r) e = rw (obeyed-refused t command next r e) tt
-      go None e = rw (obeyed-accepted t command next e) (accepted-held command e)
+  obeyed-held command next = obeyed_cases t command next HeldIfSolved (λ _ _. tt) (accepted-held command)
 
   read_held : (p : Parsed) → HeldIfSolved (read t stream at p)
   unfolding read
@@ -77,12 +72,8 @@ module _ (t : State) (stream : List ℕ) (at : ℕ) (ready : Ready t stream at) 
   read_held (unknown byte) = tt
 
 call-held : (t : State) (stream : List ℕ) (at : ℕ) → HeldIfSolved (call t stream at)
-call-held t stream at = go (call_refusal t stream at) refl (ℕ_discrete at (length stream))
-  where
-    go : (o : Option Refusal) → call_refusal t stream at ≡ o → Dec (at ≡ length stream) → HeldIfSolved (call t stream at)
-    go (Some r) e d = rw (call-refused t stream at r e) tt
-    go None e (yes h) = rw (call_end t stream at e h) tt
-    go None e (no h) = rw (call-read t stream at e h) (read_held t stream at (call_passed t stream at e) (parse stream at))
+call-held t stream at =
+    call_cases t stream at HeldIfSolved (λ _ _. tt) (λ _ _. tt) (λ e _. read_held t stream at (call_passed t stream at e) (parse stream at))
 
 pub call_solved : (t : State) (stream : List ℕ) (at : ℕ) → (call t stream at).reply ≡ Ok Solved → HoldsRig (call t stream at).after
 call_solved t stream at e = subst (λ r. IfSolved r (HoldsRig (call t stream at).after)) e (call-held t stream at)

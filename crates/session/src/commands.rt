@@ -4,13 +4,14 @@ ghost use Rattle.command.specs.Command.{parse};
 ghost use Rattle.session_record.specs.Session.{session_of};
 ghost use Rattle.session.specs.Call.{call_refusal, read};
 ghost use Rattle.session_commands.specs.Inner.Turns.{turn_result};
-ghost use Rattle.session_commands.specs.Inner.Lent.{state_in};
-ghost use Rattle.placing.specs.Inner.Lent.{SameAnswers};
+ghost use Rattle.session_commands.specs.Lent.{state_in};
+ghost use Rattle.placing.specs.Lent.{SameAnswers};
 
 use command::parse::{Kind, ParseError, parse};
 use placing::answer::LentAnswers;
 use refusal::Refusal;
 use session_commands::Turn;
+use session_commands::cell::NamedCell;
 use session_commands::pose::obey_pose;
 use session_commands::size::obey_size;
 use session_commands::solve::obey_solve;
@@ -48,7 +49,14 @@ pub fn obey_command(
             let edit = match kind {
                 Kind::Size => obey_size(held, stream[at + 1], stream[at + 2], stream[at + 3]),
                 Kind::Pose => obey_pose(held, stream, at, shared, buffer),
-                Kind::Withdraw => obey_withdraw(held, stream[at + 1], stream[at + 2], shared),
+                Kind::Withdraw => obey_withdraw(
+                    held,
+                    NamedCell {
+                        view: stream[at + 1],
+                        camera: stream[at + 2],
+                    },
+                    shared,
+                ),
                 Kind::Solve => {
                     return Turn {
                         held,

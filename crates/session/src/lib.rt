@@ -5,8 +5,8 @@
 ghost use Rattle.std.specs.Prelude.{◌≡◌, cond, ltb};
 ghost use Rattle.refusal.specs.declared.Refusal.TheVariants.{TooLong, WrongLength};
 ghost use Rattle.inputs.specs.Inputs.{checked_of};
-ghost use Rattle.session_commands.specs.Inner.Lent.{state_in};
-ghost use Rattle.placing.specs.Inner.Lent.{SameAnswers};
+ghost use Rattle.session_commands.specs.Lent.{state_in};
+ghost use Rattle.placing.specs.Lent.{SameAnswers};
 ghost use Rattle.session.specs.Call.{max_stream, call_refusal, Called};
 
 pub mod commands;
@@ -49,13 +49,13 @@ pub struct Step {
 // 13, then 5, and 11 for an offset past the end.
 #[tactic(auto, using(std::proofs::lemmas::Bool::Decides::nat_tests, crate::proofs::Calling::call_refusal_is), unfolding(inputs::specs::Inputs::checked_of, refusal::specs::Table::refuse_if, refusal::specs::Table::first_of))]
 pub fn check_call(
-    session: Session,
+    session: &Session,
     stream: &[u8],
     at: usize,
     buffer: &[f64],
     answers: &LentAnswers<'_>,
 ) -> Result<(), Refusal>
-    ensures { result ≡ checked_of (call_refusal (state_in session buffer.now answers.now) stream.now at) }
+    ensures { result ≡ checked_of (call_refusal (state_in session.now buffer.now answers.now) stream.now at) }
 {
     let end = stream.len();
     if MAX_STREAM < end {
@@ -75,6 +75,7 @@ pub fn check_call(
 }
 
 // Obeys the one command at an offset of the stream. The buffer holds the coordinates; the two answers are written by Solve alone.
+// Kept: buffer and answers side by side: of a struct around both, a caller who needs the slices back could not learn what they hold.
 #[tactic(auto, using(crate::proofs::PassedCalls::call_passed, crate::proofs::Calling::call_is, crate::proofs::Calling::called), unfolding(inputs::specs::Inputs::checked_of))]
 pub fn obey(
     session: Session,
@@ -87,7 +88,7 @@ pub fn obey(
     ensures same { SameAnswers answers.old answers.new }
 {
     let end = stream.len();
-    if let Err(refusal) = check_call(session, stream, at, buffer, answers) {
+    if let Err(refusal) = check_call(&session, stream, at, buffer, answers) {
         return Step {
             session,
             reply: Err(refusal),

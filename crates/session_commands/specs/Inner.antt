@@ -1,4 +1,3 @@
 -- What the functions of `session_commands` promise each other; no demand rests on it. Definitions only.
 pub mod Cells
 pub mod Turns
-pub mod Lent

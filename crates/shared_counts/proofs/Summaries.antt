@@ -14,10 +14,9 @@ use Rattle.lists.specs.Finding.{all_below}
 use Rattle.chains.specs.Masks.{shared_by}
 use Rattle.shared_counts.specs.Summary.{entry_count, entry_of, summary_of, is_summary}
 use Rattle.lists.proofs.Tests.{and-true}
-use Rattle.lists.proofs.AllBelow.{all_below_at}
+use Rattle.lists.proofs.AllBelow.{all_below_at, all_below_each}
 use Rattle.lists.proofs.Tabulated.{length-tabulate, get_d_tabulate}
 use Rattle.chains.proofs.Bits.{views_of_both-ones}
-use Rattle.shared_counts.proofs.Tests.{all_below_each}
 use Rattle.shared_counts.proofs.SharedViews.{shared_by-symmetric, shared_by-le, shared_by-none}
 
 module _ (masks : List ℕ) where

@@ -13,8 +13,8 @@ use Rattle.chains.specs.Masks.{shared_by}
 use Rattle.shared_counts.specs.Summary.{summary_of, is_summary}
 use Rattle.shared_counts.specs.Inner.Counts.{true_entries, true_up_to}
 use Rattle.lists.proofs.Tests.{and-true}
-use Rattle.lists.proofs.AllBelow.{all_below_at}
-use Rattle.shared_counts.proofs.Tests.{same_tests, all_below_each}
+use Rattle.lists.proofs.AllBelow.{all_below_at, all_below_each}
+use Rattle.shared_counts.proofs.Tests.{same_tests}
 use Rattle.shared_counts.proofs.SharedViews.{shared_by-symmetric}
 use Rattle.shared_counts.proofs.Summaries.{summary_at, summary_of_entries, summary_of_is_summary, is_summary_of_summary}
 

@@ -15,14 +15,14 @@ use session_record::check::is_possible;
 fn check_query(session: Session, first: u8, second: u8) -> Result<(), Refusal>
     ensures { result ≡ checked_of (query_refusal session first second) }
 {
-    if !is_possible(session) {
+    if !is_possible(&session) {
         return Err(Refusal::WrongLength);
     }
     if session.views == 0 {
         return Err(Refusal::NoSize);
     }
     if session.cameras <= first || session.cameras <= second {
-        return Err(Refusal::OutsideRig(u32::from(first) * 256 + u32::from(second)));
+        return Err(Refusal::OutsideRig(u32::from(u16::from_be_bytes([first, second]))));
     }
     Ok(())
 }

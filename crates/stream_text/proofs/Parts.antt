@@ -29,7 +29,7 @@ use Rattle.command.proofs.Decoding.{parse-complete}
 use Rattle.session.proofs.Advancing.{call_advances}
 use Rattle.listing.specs.Listing.{refusal_line, listing_bytes, written, printed_by}
 use Rattle.listing.specs.Writing.{Front}
-use Rattle.putting.specs.Inner.Putting.{Put}
+use Rattle.putting.specs.Putting.{Put}
 use Rattle.putting.proofs.Putting.{put_nothing, put_length, put_then}
 use Rattle.listing.proofs.WrittenCalls.{written-call}
 use Rattle.claims_streams.specs.Stream.{Usable}

@@ -3,8 +3,8 @@
 
 ghost use Rattle.std.specs.Prelude.{◌≡◌, None, length};
 ghost use Rattle.session.specs.Call.{call_refusal};
-ghost use Rattle.session_commands.specs.Inner.Lent.{state_in};
-ghost use Rattle.placing.specs.Inner.Lent.{SameAnswers};
+ghost use Rattle.session_commands.specs.Lent.{state_in};
+ghost use Rattle.placing.specs.Lent.{SameAnswers};
 ghost use Rattle.stream_text.specs.StreamText.{part_within, Leaves, ObeyedInto};
 
 use listing::{LISTING_BYTES, write_refusal, write_reply};
@@ -16,6 +16,7 @@ use session::{check_call, wrong_length};
 use session_record::{Held, Session};
 
 // The session after the commands obeyed, whether the text was refused, the offset of the next command, and the bytes of the text in use.
+// Kept: a refusal of the text beside the rest, and not in its place: what it leaves, session, offset and length, is told by the same clauses.
 #[derive(Clone, Copy)]
 pub struct StreamText {
     pub session: Session,
@@ -79,7 +80,7 @@ pub fn obey_stream(
             length: 0,
         };
     }
-    if let Err(refusal) = check_call(session, stream, at, buffer, answers) {
+    if let Err(refusal) = check_call(&session, stream, at, buffer, answers) {
         let mut writer = Writer::new(text);
         write_refusal(refusal, &mut writer);
         return StreamText {

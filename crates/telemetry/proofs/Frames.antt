@@ -18,7 +18,7 @@ use Rattle.refusal.specs.declared.Refusal.TheVariants.{WrongLength, BrokenFrame,
 use Rattle.command.specs.Command.{place, Command, edit, pose_width, half_at}
 use Rattle.command.specs.Writing.{bytes_of}
 use Rattle.command.proofs.Words.{get_or-part}
-use Rattle.putting.specs.Inner.Putting.{Puts}
+use Rattle.putting.specs.Putting.{Puts}
 use Rattle.putting.specs.declared.Writer.{Writer}
 use Rattle.putting.proofs.Putting.{puts_next}
 use Rattle.telemetry.specs.Frames.{frame_bytes, max_frames, metres_at, rotation_at, packed_pose, packed_command, frames_in, command_bytes, frames_refusal, imported_by, left_by, imported_of, import_leaves, max_bytes, RefusedAlike}

@@ -12,9 +12,10 @@ mod streams;
 
 use crate::lengths::{check_poses, check_text};
 use crate::poses::{product_of, write_inverses};
-use crate::streams::{print_by_commands, print_by_parts};
+use crate::streams::{ByCommands, ByParts, Memory, Printing, count_printed};
 use placer::code::refusal_code;
 use placing::answer::LentAnswers;
+use putting::Writer;
 use session::{FIRST_FLOATS, SECOND_BYTES};
 use session_record::BUFFER_FLOATS;
 
@@ -47,29 +48,24 @@ pub extern "C" fn probe_inverses(poses: &[f64], inverses: &mut [f64]) -> u64
 // A whole stream obeyed from a fresh session on, by calls of the whole-stream entry that are each lent the same text, until the next offset is the stream's
 // end. Answers how many bytes they print in all, modulo 2^64; the text then begins with what the last call printed. Refuses 5 and 13, for text that may not
 // hold every reply, which is then left as it is.
-#[tactic(auto, using(crate::proofs::Replies::printed_counted, crate::proofs::Replies::text_holds))]
 #[unsafe(no_mangle)]
 pub extern "C" fn probe_stream(stream: &[u8], text: &mut [u8]) -> u64
     ensures { Printed stream.now text.old result text.new }
 {
-    if let Err(refusal) = check_text(stream, text.len()) {
-        return refusal_code(refusal);
-    }
-    let mut buffer = [0.0f64; BUFFER_FLOATS];
-    let mut transforms = [0.0f64; FIRST_FLOATS];
-    let mut chains = [0u8; SECOND_BYTES];
-    let mut answers = LentAnswers {
-        transforms: &mut transforms,
-        chains: &mut chains,
-    };
-    print_by_parts(stream, &mut buffer, &mut answers, text)
+    print_stream::<ByParts>(stream, text)
 }
 
 // The same by calls for one command each, which all check the record.
-// Kept: beside `probe_stream`, since each calls another function of the library: a closure over lent memory in its place would be longer.
-#[tactic(auto, using(crate::proofs::Replies::printed_counted, crate::proofs::Replies::text_holds))]
 #[unsafe(no_mangle)]
 pub extern "C" fn probe_calls(stream: &[u8], text: &mut [u8]) -> u64
+    ensures { Printed stream.now text.old result text.new }
+{
+    print_stream::<ByCommands>(stream, text)
+}
+
+// What both do, in memory of their own.
+#[tactic(auto, using(crate::proofs::Replies::printed_counted, crate::proofs::Replies::text_holds))]
+fn print_stream<P: Printing>(stream: &[u8], text: &mut [u8]) -> u64
     ensures { Printed stream.now text.old result text.new }
 {
     if let Err(refusal) = check_text(stream, text.len()) {
@@ -78,9 +74,15 @@ pub extern "C" fn probe_calls(stream: &[u8], text: &mut [u8]) -> u64
     let mut buffer = [0.0f64; BUFFER_FLOATS];
     let mut transforms = [0.0f64; FIRST_FLOATS];
     let mut chains = [0u8; SECOND_BYTES];
-    let mut answers = LentAnswers {
+    let answers = LentAnswers {
         transforms: &mut transforms,
         chains: &mut chains,
     };
-    print_by_commands(stream, &mut buffer, &mut answers, text)
+    let text = Writer::new(text);
+    let mut memory = Memory {
+        buffer: &mut buffer,
+        answers,
+        text,
+    };
+    count_printed::<P>(stream, &mut memory)
 }

@@ -5,25 +5,19 @@
 
 ghost use Rattle.std.specs.Prelude.{◌≤◌, IfSome, length};
 
-use listing::{LISTING_BYTES, write_reply};
 use placing::answer::LentAnswers;
-use putting::Writer;
 use root::sqrt;
-use session::{FIRST_FLOATS, SECOND_BYTES, Step};
-use session_record::{BUFFER_FLOATS, Held};
+use session::{FIRST_FLOATS, MAX_STREAM, SECOND_BYTES};
+use session_record::BUFFER_FLOATS;
 use std::io;
 use std::io::Read;
+use test_calls::print_calls;
 
 // The sample begins with a text that says how it was made, which is printed. Then come the number of roots and the doubles to take
 // them of, and after them streams, each behind its length. Numbers and doubles are 64 bits, low byte first.
 const HEADER_BYTES: usize = 256;
 
 const WORD_BYTES: usize = 8;
-
-// More than any sample has.
-const MOST_TURNS: usize = 65536;
-
-const MOST_STREAM: usize = 4096;
 
 // The pattern that stands for every NaN, and the bit of a double's sign.
 const NAN: u64 = 0x7ff8_0000_0000_0000;
@@ -39,7 +33,7 @@ fn main(rt: HostRuntime) -> io::Result<()> {
     rt.write_all(&header)?;
     let roots = next_word(&mut input).unwrap_or(0);
     replay_roots(&rt, &mut input, roots)?;
-    let mut stream = [0u8; MOST_STREAM];
+    let mut stream = [0u8; MAX_STREAM];
     replay_streams(&rt, &mut input, &mut stream)
 }
 
@@ -71,7 +65,8 @@ fn pattern_of(x: f64) -> u64 {
 }
 
 fn replay_streams<P: Print, R: Read>(rt: &P, input: &mut R, memory: &mut [u8]) -> io::Result<()> {
-    for _ in 0..MOST_TURNS {
+    // Kept: a counted loop: nothing tells how much an input still holds, so that a `loop` has no measure.
+    for _ in 0..u64::MAX {
         let Some(length) = next_stream(input, memory) else {
             return Ok(());
         };
@@ -93,38 +88,23 @@ fn next_stream<R: Read>(input: &mut R, memory: &mut [u8]) -> Option<usize>
     Some(length)
 }
 
-// Calls until the next offset is not below the stream's length, in memory of their own.
+// The whole stream obeyed from a fresh session on, in memory of its own.
 fn replay_stream<P: Print>(rt: &P, stream: &[u8]) -> io::Result<()> {
     let mut buffer = [0.0f64; BUFFER_FLOATS];
     let mut transforms = [0.0f64; FIRST_FLOATS];
     let mut chains = [0u8; SECOND_BYTES];
-    let mut text = [0u8; LISTING_BYTES];
     let mut answers = LentAnswers {
         transforms: &mut transforms,
         chains: &mut chains,
     };
-    let mut session = session_record::fresh();
-    let mut at = 0usize;
-    for _ in 0..MOST_TURNS {
-        let step = session::obey(session, stream, at, &mut buffer, &mut answers);
-        session = step.session;
-        at = step.next;
-        print_step(rt, step, &answers, &mut text)?;
-        if stream.len() <= at {
-            return Ok(());
-        }
-    }
+    print_calls(
+        rt,
+        |_| Ok(()),
+        session_record::fresh(),
+        stream,
+        0,
+        &mut buffer,
+        &mut answers,
+    )?;
     Ok(())
-}
-
-// The lines of the reply, as `rig` prints them; none for a command that was accepted.
-fn print_step<P: Print>(
-    rt: &P,
-    step: Step,
-    answers: &LentAnswers<'_>,
-    text: &mut [u8],
-) -> io::Result<()> {
-    let mut lines = Writer::new(text);
-    write_reply(step.reply, Held::from(step.session), answers, &mut lines);
-    rt.write_all(lines.written())
 }

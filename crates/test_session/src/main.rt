@@ -5,15 +5,14 @@
 
 ghost use Rattle.std.specs.Prelude.{◌≤◌, IfSome, length};
 
-use listing::{LISTING_BYTES, write_reply};
 use placing::answer::LentAnswers;
-use putting::Writer;
 use session::Step;
 use session_commands::Done;
-use session_record::{Held, Session};
+use session_record::Session;
 use shared_query::shared_views;
 use std::io;
 use std::io::Read;
+use test_calls::print_calls;
 
 // A case begins with a line that is its label, and 26 words of 64 bits: the masks; views, cameras, reference; the offset; the lengths
 // of buffer, first and second answer; the stream's length; the two cameras to ask for. The summary, a byte an entry, and the stream follow.
@@ -27,9 +26,7 @@ const HEADER_BYTES: usize = HEADER_WORDS * WORD_BYTES;
 
 const SUMMARY_BYTES: usize = 256;
 
-const MOST_CASES: usize = 4096;
-
-// Of everything that is lent there is more than a session asks for.
+// Kept: fixed lengths, since the project has no heap. Of everything that is lent there is more than a session asks for.
 const MOST_STREAM: usize = 65600;
 
 const MOST_BUFFER: usize = 7200;
@@ -48,6 +45,7 @@ struct Case {
     length: usize,
     asked: u8,
     with: u8,
+    ghost within: { (buffer ≤ 7200) × (first ≤ 600) × (second ≤ 64) },
 }
 
 fn main(rt: HostRuntime) -> io::Result<()> {
@@ -56,8 +54,9 @@ fn main(rt: HostRuntime) -> io::Result<()> {
 }
 
 fn run_cases<P: Print, R: Read>(rt: &P, input: &mut R, memory: &mut [u8]) -> io::Result<()> {
-    for _ in 0..MOST_CASES {
-        let Some(label) = next_label(input) else {
+    // Kept: a counted loop: nothing tells how much an input still holds, so that a `loop` has no measure.
+    for _ in 0..u64::MAX {
+        let Some(label) = next_bytes::<LABEL_BYTES, R>(input) else {
             return Ok(());
         };
         rt.write_all(&label)?;
@@ -67,25 +66,22 @@ fn run_cases<P: Print, R: Read>(rt: &P, input: &mut R, memory: &mut [u8]) -> io:
         let Some(length) = next_stream(input, case, memory) else {
             return Ok(());
         };
-        if run_case(rt, case, &memory[..length])?.is_none() {
-            return Ok(());
-        }
+        run_case(rt, case, &memory[..length])?;
     }
     Ok(())
 }
 
-fn next_label<R: Read>(input: &mut R) -> Option<[u8; LABEL_BYTES]> {
-    let mut label = [0u8; LABEL_BYTES];
-    input.read_exact(&mut label).ok()?;
-    Some(label)
+// The next bytes of the input; none where it ends before.
+fn next_bytes<const N: usize, R: Read>(input: &mut R) -> Option<[u8; N]> {
+    let mut bytes = [0u8; N];
+    input.read_exact(&mut bytes).ok()?;
+    Some(bytes)
 }
 
 fn next_case<R: Read>(input: &mut R) -> Option<Case> {
-    let mut header = [0u8; HEADER_BYTES];
-    let mut summary = [0u8; SUMMARY_BYTES];
-    input.read_exact(&mut header).ok()?;
-    input.read_exact(&mut summary).ok()?;
-    Some(read_case(&header, summary))
+    let header = next_bytes::<HEADER_BYTES, R>(input)?;
+    let summary = next_bytes::<SUMMARY_BYTES, R>(input)?;
+    read_case(&header, summary)
 }
 
 // The length of the case's stream, which then stands at the front of the memory; none where it is longer or not there whole.
@@ -99,63 +95,37 @@ fn next_stream<R: Read>(input: &mut R, case: Case, memory: &mut [u8]) -> Option<
     Some(case.length)
 }
 
-// A case in as much memory as it asks for; none where it asks for more than there is.
-fn run_case<P: Print>(rt: &P, case: Case, stream: &[u8]) -> io::Result<Option<()>> {
+// A case in as much memory as it asks for.
+fn run_case<P: Print>(rt: &P, case: Case, stream: &[u8]) -> io::Result<()> {
     let mut buffer = [0.0f64; MOST_BUFFER];
     let mut transforms = [0.0f64; MOST_FIRST];
     let mut chains = [0u8; MOST_SECOND];
-    if (MOST_BUFFER < case.buffer) | (MOST_FIRST < case.first) | (MOST_SECOND < case.second) {
-        return Ok(None);
-    }
     let mut answers = LentAnswers {
         transforms: &mut transforms[..case.first],
         chains: &mut chains[..case.second],
     };
-    let after = run_calls(rt, case, stream, &mut buffer[..case.buffer], &mut answers)?;
+    let after = print_calls(
+        rt,
+        |step| print_next(rt, step),
+        case.session,
+        stream,
+        case.at,
+        &mut buffer[..case.buffer],
+        &mut answers,
+    )?;
     print_record(rt, &after)?;
     print_summary(rt, &after)?;
-    print_asked(rt, after, case.asked, case.with)?;
-    Ok(Some(()))
+    print_asked(rt, after, case.asked, case.with)
 }
 
-// Calls from an offset on until the next is not below the stream's length; the record after them.
-fn run_calls<P: Print>(
-    rt: &P,
-    case: Case,
-    stream: &[u8],
-    buffer: &mut [f64],
-    answers: &mut LentAnswers<'_>,
-) -> io::Result<Session> {
-    let mut text = [0u8; LISTING_BYTES];
-    let mut session = case.session;
-    let mut at = case.at;
-    for _ in 0..=stream.len() {
-        let step = session::obey(session, stream, at, buffer, answers);
-        session = step.session;
-        at = step.next;
-        print_step(rt, step, answers, &mut text)?;
-        if stream.len() <= at {
-            return Ok(session);
-        }
-    }
-    Ok(session)
-}
-
-fn print_step<P: Print>(
-    rt: &P,
-    step: Step,
-    answers: &LentAnswers<'_>,
-    text: &mut [u8],
-) -> io::Result<()> {
+// The next offset, and what the reply is where no line of its own follows.
+fn print_next<P: Print>(rt: &P, step: Step) -> io::Result<()> {
     let word = match step.reply {
         Ok(Done::End) => " end\n",
         Ok(Done::Accepted) => " accepted\n",
         Ok(Done::Solved) | Err(_) => " ",
     };
-    print!(rt; "{}{word}", step.next)?;
-    let mut lines = Writer::new(text);
-    write_reply(step.reply, Held::from(step.session), answers, &mut lines);
-    rt.write_all(lines.written())
+    print!(rt; "{}{word}", step.next)
 }
 
 fn print_record<P: Print>(rt: &P, session: &Session) -> io::Result<()> {
@@ -185,7 +155,8 @@ fn print_asked<P: Print>(rt: &P, session: Session, asked: u8, with: u8) -> io::R
     }
 }
 
-fn read_case(header: &[u8; HEADER_BYTES], summary: [u8; SUMMARY_BYTES]) -> Case {
+// None where a case asks for more memory than there is.
+fn read_case(header: &[u8; HEADER_BYTES], summary: [u8; SUMMARY_BYTES]) -> Option<Case> {
     let (words, _) = header.as_chunks::<WORD_BYTES>();
     let mut numbers = [0u64; HEADER_WORDS];
     for (number, word) in numbers.iter_mut().zip(words) {
@@ -193,7 +164,13 @@ fn read_case(header: &[u8; HEADER_BYTES], summary: [u8; SUMMARY_BYTES]) -> Case 
     }
     let mut masks = [0u64; 16];
     masks.copy_from_slice(&numbers[..16]);
-    Case {
+    let buffer = numbers[20] as usize;
+    let first = numbers[21] as usize;
+    let second = numbers[22] as usize;
+    if (MOST_BUFFER < buffer) | (MOST_FIRST < first) | (MOST_SECOND < second) {
+        return None;
+    }
+    Some(Case {
         session: Session {
             masks,
             views: low_byte(numbers[16]),
@@ -202,15 +179,15 @@ fn read_case(header: &[u8; HEADER_BYTES], summary: [u8; SUMMARY_BYTES]) -> Case 
             shared: summary,
         },
         at: numbers[19] as usize,
-        buffer: numbers[20] as usize,
-        first: numbers[21] as usize,
-        second: numbers[22] as usize,
+        buffer,
+        first,
+        second,
         length: numbers[23] as usize,
         asked: low_byte(numbers[24]),
         with: low_byte(numbers[25]),
-    }
+    })
 }
 
 fn low_byte(word: u64) -> u8 {
-    (word % 256) as u8
+    word.to_le_bytes()[0]
 }

@@ -1,6 +1,9 @@
 -- What the functions that read commands promise, beside the definitions of `Command`. Assumes nothing.
 use Rattle.std.specs.Prelude.{ℕ, ◌+◌, ◌≤◌, ◌≡◌, List, length, get_or}
-use Rattle.std.specs.Prelude.{None, Result, Ok, Err}
+use Rattle.std.specs.Prelude.{cond, Float, Option, None, Some, Result, Ok, Err}
+use Rattle.std.specs.Float.Ieee.Scale.{finite}
+use Rattle.arithmetic.specs.Pose.{finite_pose}
+use Rattle.arithmetic.specs.declared.pose.Pose.{Pose as PoseOfNumbers}
 use Rattle.command.specs.Command.{Edit, size, place, withdraw, Command, edit, solve, size_byte, pose_byte, solve_byte, withdraw_byte, size_width, pose_width, solve_width, withdraw_width, complete, broken, unknown, parse, offered_pose, width_of}
 use Rattle.command.specs.declared.parse.Kind.{Kind}
 use Rattle.command.specs.declared.parse.Kind.TheVariants.{Size, Pose, Solve, Withdraw}
@@ -10,6 +13,13 @@ use Rattle.command.specs.declared.parse.ParseError.TheVariants.{Unknown, Broken}
 -- The bytes of a pose: seven doubles.
 abbrev pub pose_bytes : ℕ
 pose_bytes = 56
+
+-- A double, and a pose, that are read where all the numbers are finite.
+abbrev pub finite_double : Float → Option Float
+finite_double x = cond (finite x) (Some x) None
+
+abbrev pub pose_of_finite : PoseOfNumbers → Option PoseOfNumbers
+pose_of_finite p = cond (finite_pose p) (Some p) None
 
 -- The edits whose operands follow `at`.
 abbrev pub size_at : List ℕ → ℕ → Edit

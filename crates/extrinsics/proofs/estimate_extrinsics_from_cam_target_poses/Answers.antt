@@ -14,13 +14,13 @@ returns-in_err-check_input-clause-answered c =
     (direct-refused a.counts.now a.marks.now a.floats.now a.reference a.answers.now.transforms.now a.answers.now.chains.now _
     (checked_of-refused _ _ (sym c.in_err-check_input.ensures)))
 
-pub masks_of-requires : goal.masks_of-requires
-masks_of-requires c =
+pub invariant_of-marked : goal.invariant_of-marked
+invariant_of-marked c =
     let a = c.args in
     let passed = checked_of_passed _ (sym c.in_ok-check_input.ensures) in
     let sizes = input_sizes a.counts.now a.marks.now (length a.floats.now) a.reference (length a.answers.now.transforms.now) (length a.answers.now.chains.now) passed in
     let lengths = input_lengths a.counts.now a.marks.now (length a.floats.now) a.reference (length a.answers.now.transforms.now) (length a.answers.now.chains.now) passed in
-    rw c.camera_count-cameras.ensures (sizes.views_fit, sizes.cameras_fit, lengths.marks_fit)
+    record { whole = rw c.camera_count-cameras.ensures (sizes.views_fit, sizes.cameras_fit, lengths.marks_fit) }
 
 pub invariant_of-solve : goal.invariant_of-solve
 invariant_of-solve c =
@@ -28,7 +28,7 @@ invariant_of-solve c =
     record {
       fits =
           direct_fitting a.counts.now a.marks.now a.floats.now a.reference a.answers.now.transforms.now a.answers.now.chains.now
-          c.masks_of.result c.camera_count-cameras.result c.camera_count-cameras.ensures c.masks_of.ensures
+          c.masks.result c.camera_count-cameras.result c.camera_count-cameras.ensures c.masks.ensures
           (checked_of_passed _ (sym c.in_ok-check_input.ensures));
     }
 
@@ -43,6 +43,6 @@ pub returns-clause-answered : goal.returns-clause-answered
 returns-clause-answered c =
     let a = c.args in
     direct-answers a.counts.now a.marks.now a.floats.now a.reference a.answers.now.transforms.now a.answers.now.chains.now
-    c.masks_of.result c.camera_count-cameras.result c.camera_count-cameras.ensures c.masks_of.ensures
+    c.masks.result c.camera_count-cameras.result c.camera_count-cameras.ensures c.masks.ensures
     (checked_of_passed _ (sym c.in_ok-check_input.ensures))
     _ _ _ c.solve.ensures.answered

@@ -8,4 +8,4 @@ use Rattle.record_words.proofs.session_in.Goals as goal
 pub returns : goal.returns
 returns c =
     let shared = part_made _ _ c.args.words.now shared_word (λ i y q k. search rules) _ _ c.from_fn-shared.ensures.items (omega arith) in
-    rw (c.copy_from_slice.ensures.after, shared)
+    rw shared (search rules)

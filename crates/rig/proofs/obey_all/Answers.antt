@@ -6,7 +6,7 @@ use lib.ListN.{length, take, length-append}
 use borrow.Author.Rules.{rules}
 use Rattle.std.specs.Io.KnownBytes.{Appends}
 use Rattle.std.proofs.KnownBytes.{Appends-trans}
-use Rattle.session_commands.specs.Inner.Lent.{state_in}
+use Rattle.session_commands.specs.Lent.{state_in}
 use Rattle.session_record.specs.declared.Session.{Session}
 use Rattle.claims_printing.proofs.Loop.{round_of}
 use Rattle.rig.proofs.Rounds.{turn_comes, turn_ends}

@@ -1,8 +1,8 @@
 -- What the whole stream leaves and prints is still to come, behind what was printed (`Comes`); the measure is how much of the stream is left. Assumes nothing.
 use Rattle.std.proofs.Common.{ℕ, ◌-◌, List, ◌≡◌, length}
 use Rattle.std.specs.Io.KnownBytes.{Appends}
-use Rattle.session_commands.specs.Inner.Lent.{state_in}
-use Rattle.placing.specs.Inner.Lent.{SameAnswers}
+use Rattle.session_commands.specs.Lent.{state_in}
+use Rattle.placing.specs.Lent.{SameAnswers}
 use Rattle.rig.proofs.Rounds.{text_bytes, Comes}
 use Rattle.rig.proofs.obey_all.Given as goal
 

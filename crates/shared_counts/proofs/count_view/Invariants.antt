@@ -3,4 +3,4 @@ use Rattle.shared_counts.specs.Inner.Counts.{Counted}
 use Rattle.shared_counts.proofs.count_view.Given as goal
 
 abbrev pub invariant-loop-other : goal.invariant-loop-other
-invariant-loop-other l = Counted l.masks l.initial.shared l.camera l.view l.by l.other l.shared
+invariant-loop-other l = Counted l.masks l.initial.shared l.camera l.cell.view l.by l.other l.shared

@@ -4,7 +4,7 @@ use mathlib.Core.Path.{refl}
 use Rattle.lists.specs.Finding.{all_below}
 use Rattle.chains.specs.Masks.{shared_by}
 use Rattle.shared_counts.specs.Inner.Counts.{true_entries}
-use Rattle.shared_counts.proofs.Tests.{all_below-one_more}
+use Rattle.lists.proofs.AllBelow.{all_below-one_more}
 use Rattle.shared_counts.proofs.ZeroTests.{or-zero, xor-zero}
 use Rattle.shared_counts.proofs.counts_up_to.Goals as goal
 

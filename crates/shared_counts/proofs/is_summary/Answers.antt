@@ -6,7 +6,7 @@ use Rattle.std.proofs.lemmas.Iterator.{YieldsList-from_range}
 use Rattle.std.proofs.lemmas.Iterator.Search.{all_from_yields_List}
 use Rattle.limits.specs.Limits.{max_cameras}
 use Rattle.shared_counts.specs.Inner.Counts.{true_up_to}
-use Rattle.shared_counts.proofs.Tests.{all_in_range}
+use Rattle.lists.proofs.AllBelow.{all_in_range}
 use Rattle.shared_counts.proofs.TrueEntries.{all_true_is_summary}
 use Rattle.shared_counts.proofs.is_summary.Goals as goal
 

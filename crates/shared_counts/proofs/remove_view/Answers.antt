@@ -4,5 +4,5 @@ use Rattle.shared_counts.proofs.remove_view.Goals as goal
 
 pub returns : goal.returns
 returns c =
-    let held = c.requires.view_held in
-    counted_removed _ _ _ _ _ held.0 held.1 held.2 c.requires.summed_with_view c.count_view.ensures
+    let inside = c.args.cell.inside in
+    counted_removed _ _ _ _ _ inside.1 inside.0 c.requires.view_held c.requires.summed_with_view c.count_view.ensures

@@ -9,7 +9,7 @@ use Rattle.std.specs.Prelude.{Ok}
 use lib.ListN.{length}
 use Rattle.session_record.specs.Session.{session_of}
 use Rattle.session_record.specs.declared.Held.{Held}
-use Rattle.session_commands.specs.Inner.Lent.{state_in}
+use Rattle.session_commands.specs.Lent.{state_in}
 use Rattle.listing.specs.Listing.{listing_bytes}
 use Rattle.listing.proofs.Writing.{put_front}
 use Rattle.stream_text.specs.StreamText.{part_within}

@@ -2,8 +2,8 @@
 -- what is still to come (`Going`); the measure is how much of the stream is left. Assumes nothing.
 use Rattle.std.proofs.Common.{◌≡◌, ◌-◌, length}
 use Rattle.session_record.specs.Session.{session_of}
-use Rattle.session_commands.specs.Inner.Lent.{state_in}
-use Rattle.placing.specs.Inner.Lent.{SameAnswers}
+use Rattle.session_commands.specs.Lent.{state_in}
+use Rattle.placing.specs.Lent.{SameAnswers}
 use Rattle.stream_text.specs.StreamText.{part_within}
 use Rattle.stream_text.proofs.Parts.{Going}
 use Rattle.stream_text.proofs.obey_commands.Given as goal

@@ -7,7 +7,7 @@ use lib.ListN.{length}
 use Rattle.std.specs.Prelude.{Err, Ok}
 use Rattle.inputs.specs.Inputs.{checked_of}
 use Rattle.inputs.proofs.Answering.{checked_of-refused, checked_of_passed}
-use Rattle.session_commands.specs.Inner.Lent.{state_in}
+use Rattle.session_commands.specs.Lent.{state_in}
 use Rattle.listing.specs.Listing.{listing_bytes}
 use Rattle.listing.proofs.Writing.{front-nothing, puts_front}
 use Rattle.stream_text.proofs.Parts.{text_refusal-short, text_refusal-holds, part_in-short, part_in-refused, part_in_passes, leaves_of, leaves_same, leaves_lent, front-refusal}

@@ -2,7 +2,7 @@
 use Prim.Native.Nat.{◌*◌}
 use mathlib.Core.Path.{◌≡◌}
 use Rattle.lists.specs.Lists.{gather}
-use Rattle.putting.specs.Inner.Putting.{Puts}
+use Rattle.putting.specs.Putting.{Puts}
 use Rattle.command.specs.Command.{pose_width}
 use Rattle.command.specs.Writing.{bytes_of}
 use Rattle.telemetry.specs.Frames.{frame_bytes, packed_command}

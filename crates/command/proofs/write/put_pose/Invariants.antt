@@ -1,7 +1,7 @@
 -- `command::write::put_pose` meets its contract. The loop's invariant: the numbers so far are put, one behind the other. Assumes nothing.
 use lib.ListN.{take}
 use Rattle.std.specs.List.{flat_map}
-use Rattle.putting.specs.Inner.Putting.{Puts}
+use Rattle.putting.specs.Putting.{Puts}
 use Rattle.command.specs.Writing.{double_bytes}
 use Rattle.command.proofs.write.put_pose.Given as goal
 

@@ -2,7 +2,7 @@
 use Prim.Native.Nat.{◌+◌, ◌*◌, ◌≤◌}
 use Rattle.limits.specs.Limits.{pose_floats}
 use Rattle.lists.specs.Lists.{gather}
-use Rattle.putting.specs.Inner.Putting.{Puts}
+use Rattle.putting.specs.Putting.{Puts}
 use Rattle.listing.specs.Listing.{pose_fields, camera_line_at}
 use Rattle.listing.specs.Widths.{camera_bytes}
 use Rattle.listing.proofs.lines.put_cameras.Given as goal

@@ -2,7 +2,7 @@
 use Prim.Native.Nat.{◌+◌, ◌*◌, ◌≤◌}
 use Rattle.limits.specs.Limits.{pose_floats}
 use Rattle.lists.specs.Lists.{gather}
-use Rattle.putting.specs.Inner.Putting.{Puts}
+use Rattle.putting.specs.Putting.{Puts}
 use Rattle.listing.specs.Listing.{pose_fields, view_line_at}
 use Rattle.listing.specs.Widths.{view_bytes}
 use Rattle.listing.proofs.lines.put_views.Given as goal

@@ -12,7 +12,7 @@ pub put_float-requires : goal.put_float-requires
 put_float-requires c = omega (arith, puts_length, length_float_fields, length-take {A = Float})
 
 pub loop-number-preserved : goal.loop-number-preserved
-loop-number-preserved c = puts_next_float (flat c.args.pose) c.loop-number.number-index (omega arith) c.loop-number.invariant c.put_float.ensures
+loop-number-preserved c = puts_next_float c.from-number-items.result c.loop-number.number-index (omega arith) c.loop-number.invariant c.put_float.ensures
 
 pub put_byte-requires : goal.put_byte-requires
 put_byte-requires c = omega (arith, puts_length, length_float_fields, length-take {A = Float})
@@ -20,4 +20,4 @@ put_byte-requires c = omega (arith, puts_length, length_float_fields, length-tak
 pub returns : goal.returns
 returns c =
     let all : c.loop-number.number-index ≡ 7 = omega arith in
-    rw (fields_text-floats (flat c.args.pose)) (puts_then (rw all at c.loop-number.invariant) c.put_byte.ensures)
+    rw (fields_text-floats (flat c.args.pose)) (puts_then (rw (all, c.from-number-items.ensures) at c.loop-number.invariant) c.put_byte.ensures)

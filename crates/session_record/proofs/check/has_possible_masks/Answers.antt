@@ -6,7 +6,7 @@ use Rattle.std.proofs.lemmas.Iterator.{YieldsList-from_range}
 use Rattle.std.proofs.lemmas.Iterator.Search.{all_from_yields_List}
 use Rattle.limits.specs.Limits.{max_cameras}
 use Rattle.session_record.specs.Session.{mask_fits}
-use Rattle.shared_counts.proofs.Tests.{all_in_range}
+use Rattle.lists.proofs.AllBelow.{all_in_range}
 use Rattle.session_record.proofs.check.has_possible_masks.Goals as goal
 
 pub returns : goal.returns
