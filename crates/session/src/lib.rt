@@ -75,7 +75,7 @@ pub fn check_call(
 }
 
 // Obeys the one command at an offset of the stream. The buffer holds the coordinates; the two answers are written by Solve alone.
-// Kept: buffer and answers side by side: of a struct around both, a caller who needs the slices back could not learn what they hold.
+// Kept: buffer and answers side by side: Solve reads the one while it writes the others, so that a struct of all three would be taken apart again there.
 #[tactic(auto, using(crate::proofs::PassedCalls::call_passed, crate::proofs::Calling::call_is, crate::proofs::Calling::called), unfolding(inputs::specs::Inputs::checked_of))]
 pub fn obey(
     session: Session,

@@ -41,7 +41,7 @@ fn store_pose(pose: Pose, cell: Cell, buffer: &mut [f64])
     pose.write(&mut buffer[start..]);
 }
 
-// Kept: a buffer whose length is asked for, since C lends slices: an array's reference would be made of it for each command.
+// Kept: a buffer whose length is asked for, since C lends slices: an array's reference would be made of it for each call.
 // 21, then 12, 23 and 7. An accepted Pose sets one bit, counts its view and writes seven floats.
 #[tactic(auto, using(crate::proofs::PossibleRecords::record_parts), unfolding(crate::specs::Obeyed::obeyed, crate::specs::Pose::pose_command_refusal))]
 pub fn obey_pose(
