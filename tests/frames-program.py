@@ -2,7 +2,7 @@
 
 No frames, one, the most and drawn ones; every length at which the answer changes, and lengths far beyond what the program can hold, from files and from pipes in uneven
 pieces; the commands piped into rig; inputs that come late or fail; outputs that are slow, full, closed, or that nobody reads. Commands come on standard output, and a
-refusal, or what goes wrong, in one line on standard error: the exit status is 1 where its input or its output failed, and otherwise 0.
+refusal, or what goes wrong, in one line on standard error: the exit status is 1 where its input or an output failed, and otherwise 0.
 """
 
 import fcntl
@@ -26,13 +26,15 @@ FRAMES, RIG = map(os.path.abspath, sys.argv[1:3])
 MOST = oracle.FRAME * oracle.FRAMES
 DRAWN = 20
 PAUSE = 0.05
+BROKEN, TOO_MANY = b'no 14 0\n', b'no 15 0\n'
 # Of 100 million bytes a program that keeps them all, or counts them in too few digits, would tell something else.
 LENGTHS = [
     1, 29, 31, 59, 60, 61, MOST - 30, MOST - 1, MOST, MOST + 1, MOST + 29, MOST + 30, MOST + 31, MOST + 59, MOST + 60, MOST + 61,
     2 * MOST - 1, 2 * MOST, 2 * MOST + 1, 65535, 65536, 65537, 65550, 1000000, 1000020,
 ]
 LONG = [100000000, 100000010, 100000020]
-BROKEN, TOO_MANY = b'no 14 0\n', b'no 15 0\n'
+# A count of 32 bits would take these for 14 bytes, and for one frame. They are files of zeros that take no room.
+LONGEST = [(2 ** 32 + 14, TOO_MANY), (2 ** 32 + 30, BROKEN)]
 
 
 def expect(what, printed, wanted, told=b'', wanted_told=b'', status=0, wanted_status=0):
@@ -100,6 +102,10 @@ def check_lengths():
         run('a pipe of %d bytes in uneven pieces' % length, printed, told, stdin=given)
         os.close(given)
         writer.join()
+    for length, told in LONGEST:
+        with tempfile.TemporaryFile() as given:
+            given.truncate(length)
+            run('a file of %d bytes' % length, b'', told, stdin=given)
     for length, told in [(29, BROKEN), (30721, BROKEN), (30749, BROKEN), (30750, TOO_MANY), (30751, BROKEN), (65550, TOO_MANY), (1000000, BROKEN), (1000020, TOO_MANY)]:
         expect('the reading of %d bytes' % length, oracle.frames(bytes(length))[1], told)
 
@@ -215,6 +221,13 @@ def check_outputs():
     run('a pipe that nobody reads', b'', b'frames: standard output: Broken pipe\n', input=packed, stdout=taken)
     run('a pipe that nobody reads, with SIGPIPE ignored', b'', b'frames: standard output: Broken pipe\n', input=packed, stdout=taken, restore_signals=False)
     os.close(taken)
+    # A refusal that nobody can be told of.
+    for what, line in [('full', "'%s' 2>/dev/full"), ('closed', "'%s' 2>&-"), ('open for reading alone', "'%s' 2</dev/null")]:
+        for given, commands, status in [(packed[:-1], b'', 1), (packed, oracle.frames(packed)[0], 0), (b'', b'', 0)]:
+            done = subprocess.run(['sh', '-c', line % FRAMES], input=given, stdout=subprocess.PIPE, timeout=60)
+            expect('standard error is %s' % what, done.stdout, commands, status=done.returncode, wanted_status=status)
+        done = subprocess.run(['sh', '-c', line % FRAMES + ' <&-'], stdout=subprocess.PIPE, timeout=60)
+        expect('standard error is %s, and the input closed' % what, done.stdout, b'', status=done.returncode, wanted_status=1)
 
 
 def main():
@@ -224,7 +237,7 @@ def main():
     check_inputs()
     check_slow()
     check_outputs()
-    print('frames: the sample and the largest rig through rig, %d drawn frames, lengths from 0 to %d bytes, inputs and outputs of all kinds, as expected' % (count, max(LONG)))
+    print('frames: the sample and the largest rig through rig, %d drawn frames, lengths from 0 to %d bytes, inputs and outputs of all kinds, as expected' % (count, max(LONGEST)[0]))
 
 
 main()

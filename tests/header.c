@@ -675,14 +675,14 @@ static void frames(void) {
         not_imported("room for the frames as they are", length, length, PLACER_WRONG_LENGTH);
     }
     /* Lengths that 32 bits do not hold are not taken for what is left of them: 2^32 or 2^33 bytes more than a frame, and more than room for one. Their memory cannot even
-     * be read: a refusal does not look at it. */
-    const size_t longest = ((size_t)1 << 33) + PLACER_POSE_BYTES;
+     * be read: a refusal does not look at it. Frames and room are two pieces of it. */
+    const size_t longest = ((size_t)1 << 33) + 2 * PLACER_POSE_BYTES;
     uint8_t *const closed = mmap(NULL, longest, PROT_NONE, MAP_PRIVATE | MAP_ANONYMOUS | MAP_NORESERVE, -1, 0);
     hold("mmap", closed != MAP_FAILED);
     if (closed != MAP_FAILED) {
         for (int power = 32; power <= 33; power++) {
             const size_t more = (size_t)1 << power, to_frames = PLACER_FRAME_BYTES - more % PLACER_FRAME_BYTES;
-            refuses("a frame and 2^32 bytes", CALL(placer_frames, .frames = closed, .frames_length = more + PLACER_FRAME_BYTES, .commands = closed, .commands_length = PLACER_POSE_BYTES), PLACER_BROKEN_FRAME, 0);
+            refuses("a frame and 2^32 bytes", CALL(placer_frames, .frames = closed, .frames_length = more + PLACER_FRAME_BYTES, .commands = closed + longest - PLACER_POSE_BYTES, .commands_length = PLACER_POSE_BYTES), PLACER_BROKEN_FRAME, 0);
             refuses("2^32 bytes and a few", CALL(placer_frames, .frames = closed, .frames_length = more + to_frames, .commands = closed, .commands_length = 0), PLACER_TOO_MANY_FRAMES, 0);
             refuses("2^32 bytes of room too many", CALL(placer_frames, .frames = packed.frames, .frames_length = PLACER_FRAME_BYTES, .commands = closed, .commands_length = more + PLACER_POSE_BYTES), PLACER_WRONG_LENGTH, 0);
         }

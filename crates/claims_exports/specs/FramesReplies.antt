@@ -1,8 +1,7 @@
 -- What `placer_frames` replies, in words, by document 02, change 3, as include/placer.h has it: a reply of 2^32 or more is a refusal, its number in the upper 32 bits, and any other is how many
 -- frames there were. What is imported is said of frames that are bytes, as those of every caller are. Rests on the words for the import in `claims_telemetry`, and on the replies of `placer`.
 use Rattle.std.specs.Prelude.{ℕ, ◌*◌, ◌^◌, ◌≤◌, ◌<◌, ◌≡◌, List, length}
-use Rattle.command.specs.Command.{Bytes}
-use Rattle.telemetry.specs.Frames.{imported_of}
+use Rattle.telemetry.specs.Frames.{Bytes, imported_of}
 use Rattle.claims_telemetry.specs.Import.{CommandsOfFrames}
 use Rattle.placer.specs.Reading.{imported_in}
 

@@ -2,51 +2,40 @@
 -- and exact by `Nearest`; the command of frame k stands behind those before it (`gather-apart`), where it is read back (`parse_bytes_of`). Assumes nothing.
 use Prim.Native.Nat.{ℕ, zero, suc, ◌+◌, ◌*◌, ◌/◌, ◌%◌, ◌^◌, ◌≤◌, ◌<◌}
 use native.Mathlib.Decide.{dec_lt}
-use native.Mathlib.Nat.{zero-add}
+use native.Mathlib.Nat.{add-zero, zero-add, add_assoc}
 use native.Mathlib.Omega.{arith}
 use mathlib.Core.Path.{◌≡◌, refl, sym, ap, ap₂, ◌∙◌, subst}
 use mathlib.Core.Bool.{true}
-use Rattle.std.specs.Prelude.{Option, None, Some}
+use Rattle.std.specs.Prelude.{Option, None, Some, Err, Ok}
 use mathlib.Core.List.{List, [], ◌∷◌, ◌++◌, append_assoc, append-nil}
-use lib.ListN.{length, take, drop, length-append}
-use lib.Seq.{take_at, drop_at}
+use lib.ListN.{length, get_or, take, drop, length-append}
+use lib.Seq.{take_at, drop_at, get_or-drop}
 use lib.Dec.{T}
-use lib.IntN.{ℤ, pos, negsuc}
-use lib.Ieee.{binary64, fits}
+use lib.Ieee.{Float, binary64, of_bits, fits}
 use lib.Ieee.Scale.{finite}
 use Rattle.lists.specs.Lists.{gather}
 use Rattle.lists.proofs.Blocks.{length-gather, gather-apart, listed, tabulate_listed}
 use Rattle.arithmetic.specs.Pose.{finite_pose}
+use Rattle.arithmetic.specs.declared.pose.Pose.{Pose}
 use Rattle.refusal.specs.Table.{number_of, detail_of}
 use Rattle.refusal.specs.declared.Refusal.{Refusal}
 use Rattle.refusal.specs.declared.Refusal.TheVariants.{WrongLength, BrokenFrame, TooManyFrames}
 use Rattle.command.specs.Framing as Framing
 use Rattle.command.specs.Framing.{frame, frames, clean, frames_from, Frame, whole, framed}
-use Rattle.command.specs.Command.{Command, Bytes, width_of, command_at, commands_at, complete, parse, half_at}
+use Rattle.command.specs.Command.{place, Command, edit, pose_byte, word_at, double_at, offered_pose, width_of, command_at, commands_at, complete, parse, half_at}
 use Rattle.command.specs.Writing.{bytes_of, Doubles}
 use Rattle.command.proofs.Framing.{frames_from-none, frames_from_end, frames_from-whole}
-use Rattle.command.proofs.Decoding.{parse-drop, framed-complete}
+use Rattle.command.proofs.Decoding.{parse-drop, framed-complete, parse-place}
 use Rattle.command.proofs.Writing.{parse_bytes_of}
 use Rattle.command.proofs.LowBytes.{length_place_bytes}
 use Rattle.telemetry.specs.Quotient.{count_of, quotient, micrometres, rotation_units}
-use Rattle.telemetry.specs.Frames.{frame_bytes, metres_at, rotation_at, packed_pose, packed_command, frames_in, command_bytes, frames_refusal, imported_of, import_leaves}
-use Rattle.telemetry.proofs.Quotient as telemetry
+use Rattle.telemetry.specs.Frames.{Bytes, frame_bytes, metres_at, rotation_at, packed_pose, packed_command, frames_in, command_bytes, frames_refusal, imported_of, import_leaves}
 use Rattle.telemetry.proofs.Quotient.{count_of_low, count_of_high, count_of_size, quotient_finite}
 use Rattle.telemetry.proofs.Frames.{frames-broken, frames_many, frames_wrong, frames_pass, import_refused, import_passed}
-use Rattle.claims_telemetry.specs.Import.{SignedAt, MetresAt, RotationAt, PoseOfFrame, CommandsOfFrames, RefusedWith, ImportDemand}
-use Rattle.claims_telemetry.specs.Nearest.{size_of}
+use Rattle.claims_telemetry.specs.Import.{word_from, SignedAt, MetresAt, RotationAt, PoseOfFrame, DoubleAt, PoseAt, CommandsOfFrames, RefusedWith, ImportDemand}
 use Rattle.claims_telemetry.proofs.Nearest.{quotient-held, metres_nearest, units-exact}
-use Rattle.std.specs.Prelude.{Err, Ok}
 
 -- ---- one number
-
--- The size of a count is what `telemetry` goes by.
-count-size : (word : ℕ) → word < 2 ^ 32 → size_of (count_of word) ≤ 2 ^ 31
-count-size word h = go (count_of word) (count_of_size word h)
-  where
-    go : (count : ℤ) → telemetry.size_of count ≤ 2 ^ 31 → size_of count ≤ 2 ^ 31
-    go (pos n) l = l
-    go (negsuc n) l = l
 
 module _ (bytes : List ℕ) (small : Bytes bytes) where
   word_small : (at : ℕ) → half_at bytes at < 2 ^ 32
@@ -63,11 +52,11 @@ module _ (bytes : List ℕ) (small : Bytes bytes) where
 
   metres : (at : ℕ) → MetresAt bytes at (metres_at bytes at)
   unfolding metres_at
-  metres at = (count_of (half_at bytes at), signed_count at, metres_nearest (count_of (half_at bytes at)) (count-size (half_at bytes at) (word_small at)))
+  metres at = (count_of (half_at bytes at), signed_count at, metres_nearest (count_of (half_at bytes at)) (count_of_size (half_at bytes at) (word_small at)))
 
   rotation : (at : ℕ) → RotationAt bytes at (rotation_at bytes at)
   unfolding rotation_at
-  rotation at = (count_of (half_at bytes at), signed_count at, units-exact (count_of (half_at bytes at)) (count-size (half_at bytes at) (word_small at)))
+  rotation at = (count_of (half_at bytes at), signed_count at, units-exact (count_of (half_at bytes at)) (count_of_size (half_at bytes at) (word_small at)))
 
   -- ---- one frame
 
@@ -113,6 +102,38 @@ packed_doubles bytes at = record {
   where
     number : (i divisor : ℕ) → T (fits binary64 (quotient (count_of (half_at bytes i)) divisor))
     number i divisor = quotient-held (count_of (half_at bytes i)) divisor
+
+-- ---- a command's bytes, as they are read
+
+double_read : (bytes : List ℕ) (at : ℕ) → of_bits binary64 (word_from bytes at + 4294967296 * word_from bytes (at + 4)) ≡ double_at bytes at
+unfolding double_at word_at
+double_read bytes at = ap (of_bits binary64) words
+  where
+    words : word_from bytes at + 4294967296 * word_from bytes (at + 4) ≡ word_at bytes at
+    words = simp add_assoc (omega arith)
+
+-- Where a Pose command is read, its bytes stand.
+pose_at : (bytes : List ℕ) (at view camera : ℕ) (p : Pose) → get_or bytes at 0 ≡ pose_byte → at + 59 ≤ length bytes
+    → parse bytes at ≡ complete (edit (place view camera p)) 59 → PoseAt bytes at view camera p
+unfolding offered_pose
+pose_at bytes at view camera p first room read =
+    let own = parse-place bytes at first room in
+    let view_is : get_or bytes (at + 1) 0 ≡ view = cc in
+    let camera_is : get_or bytes (at + 2) 0 ≡ camera = cc in
+    let pose_is : offered_pose bytes (at + 3) ≡ p = cc in
+    let number : (i j : ℕ) (f : Pose → Float) → i ≡ j → double_at bytes j ≡ f (offered_pose bytes (at + 3)) → DoubleAt bytes i (f p) = λ i j f e g. double_read bytes i ∙ ap (double_at bytes) e ∙ g ∙ ap f pose_is in
+    record {
+      pose_byte = first;
+      view_byte = view_is;
+      camera_byte = camera_is;
+      x_bits = number _ (at + 3) (λ q. q.translation.x) refl refl;
+      y_bits = number _ (at + 3 + 8) (λ q. q.translation.y) (omega arith) refl;
+      z_bits = number _ (at + 3 + 16) (λ q. q.translation.z) (omega arith) refl;
+      i_bits = number _ (at + 3 + 24) (λ q. q.rotation.i) (omega arith) refl;
+      j_bits = number _ (at + 3 + 32) (λ q. q.rotation.j) (omega arith) refl;
+      k_bits = number _ (at + 3 + 40) (λ q. q.rotation.k) (omega arith) refl;
+      w_bits = number _ (at + 3 + 48) (λ q. q.rotation.w) (omega arith) refl;
+    }
 
 -- ---- the commands, one behind the other
 
@@ -162,14 +183,25 @@ module _ (bytes : List ℕ) where
         ∙ parse-command k (behind ++ after)
 
     -- And in the answer alone.
+    read_there : parse (gather n block) (59 * k) ≡ complete (command k) 59
+    read_there =
+        ap (λ (l : List ℕ). parse l (59 * k)) (sym (append-nil (gather n block)))
+        ∙ ap (parse (gather n block ++ [])) (sym (zero-add (59 * k)))
+        ∙ in_a_stream [] []
+
     framed_there : (framed width_of (gather n block) (59 * k) ≡ whole 59) × (command_at (gather n block) (frame (59 * k) 59) ≡ command k)
-    framed_there = framed-complete (gather n block) (59 * k) (command k) 59 there
-      where
-        there : parse (gather n block) (59 * k) ≡ complete (command k) 59
-        there =
-            ap (λ (l : List ℕ). parse l (59 * k)) (sym (append-nil (gather n block)))
-            ∙ ap (parse (gather n block ++ [])) (sym (zero-add (59 * k)))
-            ∙ in_a_stream [] []
+    framed_there = framed-complete (gather n block) (59 * k) (command k) 59 read_there
+
+    first_byte : get_or (gather n block) (59 * k) 0 ≡ pose_byte
+    unfolding packed_command bytes_of
+    first_byte =
+        ap (λ (i : ℕ). get_or (gather n block) i 0) (sym (add-zero (59 * k)))
+        ∙ sym (get_or-drop (59 * k) (gather n block) 0 0)
+        ∙ ap (λ (l : List ℕ). get_or l 0 0) from_block
+
+    its_bytes_read : PoseAt (gather n block) (59 * k) (get_or bytes (30 * k) 0) (get_or bytes (30 * k + 1) 0) (packed_pose bytes (30 * k))
+    unfolding packed_command
+    its_bytes_read = pose_at (gather n block) (59 * k) _ _ _ first_byte (omega (arith, length-gather block 59 wide n)) read_there
 
   module _ (n : ℕ) where
     abbrev answer : List ℕ
@@ -204,6 +236,7 @@ module _ (bytes : List ℕ) where
         pose_of_frame = pose_of_frame bytes small (30 * k);
         pose_finite = packed_finite bytes small (30 * k);
         is_place = unfold packed_command in refl;
+        its_bytes_read = its_bytes_read n k h;
         its_bytes = its_bytes n k h;
         in_a_stream = in_a_stream n k h;
       };

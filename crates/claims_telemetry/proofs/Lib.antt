@@ -4,4 +4,3 @@ pub mod Nearest
 pub mod Import
 pub mod Only
 pub mod Lengths
-pub mod Rows

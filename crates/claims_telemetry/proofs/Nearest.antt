@@ -12,7 +12,7 @@ use Prim.Native.Nat.{ℕ, zero, suc, ◌+◌, ◌*◌, ◌%◌, ◌^◌, ◌≤�
 use native.Mathlib.Nat.{le_refl, le_of_lt, le_of_eq, le_of_suc-le-suc, le_trans, le_antisymm, lt_of_lt_of_le, lt_of_le_of_lt, lt_of_not-le, lt_irrefl, zero-lt-suc, zero-mul, add_comm, add-le-add, mul_assoc, mul_right_comm, mul-pos, mul-le-mul_right, mul-lt-mul_of_pos_right, eq_of_mul-eq-mul_right}
 use native.Mathlib.Omega.{arith}
 use lib.Dec.{T, lit<, lit≤}
-use lib.IntN.{ℤ, pos, negsuc}
+use lib.IntN.{ℤ, pos, negsuc, nat_abs}
 use lib.Pow.{pow_pos, pow_mono, shl_lt}
 use lib.Ieee.{Float, nan, inf, fin, binary64, up, down, neg, round, fits}
 use lib.Ieee.Exact.{HasValue, units_val, round_exact}
@@ -21,19 +21,19 @@ use Rattle.root.specs.Root.{units_of, units_in_one, Neighbours}
 use Rattle.root.proofs.Bits.{units_of_value}
 use Rattle.root.proofs.Nearest.{double-units, same_units}
 use Rattle.telemetry.specs.Quotient.{quotient, micrometres, rotation_units}
-use Rattle.claims_telemetry.specs.Nearest.{is_negative, size_of, Nearer, NearestQuotient, IsNearest, IsExact}
+use Rattle.claims_telemetry.specs.Nearest.{is_negative, Nearer, NearestQuotient, IsNearest, IsExact}
 use Rattle.claims_telemetry.proofs.Rounding.{dropped, rounded, odd_pos, no_overflow, nearer}
 
 -- ---- `quotient` by the sign and the size of its count
 
-quotient_is : (count : ℤ) (divisor : ℕ) → quotient count divisor ≡ round binary64 (is_negative count) (size_of count) divisor
+quotient_is : (count : ℤ) (divisor : ℕ) → quotient count divisor ≡ round binary64 (is_negative count) (nat_abs count) divisor
 unfolding quotient
 quotient_is (pos n) divisor = refl
 quotient_is (negsuc n) divisor = refl
 
 -- The format holds it, whatever the count. That it is finite where the count is in range is part of `IsNearest`.
 pub quotient-held : (count : ℤ) (divisor : ℕ) → T (fits binary64 (quotient count divisor))
-quotient-held count divisor = subst (λ (x : Float). T (fits binary64 x)) (sym (quotient_is count divisor)) (round-fits binary64 (is_negative count) (size_of count) divisor)
+quotient-held count divisor = subst (λ (x : Float). T (fits binary64 x)) (sym (quotient_is count divisor)) (round-fits binary64 (is_negative count) (nat_abs count) divisor)
 
 -- ---- what is exact is nearest
 
@@ -58,13 +58,13 @@ exact_nearest count divisor p (inf s) a = a
 exact_nearest count divisor p (fin s m e) a = record {
   same_sign = a.same_sign;
   held = a.held;
-  nearest_of_all = λ t n c f. exact-nearer (size_of count) divisor (units_of m e) (units_of n c) p a.exact;
+  nearest_of_all = λ t n c f. exact-nearer (nat_abs count) divisor (units_of m e) (units_of n c) p a.exact;
 }
 
 -- ---- where the quotient is a double, q * 2 ^ j units
 
-value_exact : (count : ℤ) (divisor a : ℕ) → 0 < divisor → size_of count * 2 ^ 1074 ≡ a * divisor
-    → (x : Float) → HasValue x (is_negative count) (size_of count) divisor → T (fits binary64 x) → IsExact count divisor x
+value_exact : (count : ℤ) (divisor a : ℕ) → 0 < divisor → nat_abs count * 2 ^ 1074 ≡ a * divisor
+    → (x : Float) → HasValue x (is_negative count) (nat_abs count) divisor → T (fits binary64 x) → IsExact count divisor x
 value_exact count divisor a p e nan v f = v
 value_exact count divisor a p e (inf s) v f = v
 value_exact count divisor a p e (fin s m c) v f =
@@ -72,32 +72,32 @@ value_exact count divisor a p e (fin s m c) v f =
     eq_of_mul-eq-mul_right divisor p (m * up c * 2 ^ 1074) (a * down c)
     (mul_right_comm (m * up c) (2 ^ 1074) divisor
     ∙ ap (λ (x : ℕ). x * 2 ^ 1074) v.1
-    ∙ mul_right_comm (size_of count) (down c) (2 ^ 1074)
+    ∙ mul_right_comm (nat_abs count) (down c) (2 ^ 1074)
     ∙ ap (λ (x : ℕ). x * down c) e
     ∙ mul_right_comm a divisor (down c)) in
     record { same_sign = v.0; held = f; exact = ap (λ (x : ℕ). x * divisor) (units_of_value m c a worth) ∙ sym e }
 
-quotient-exact : (count : ℤ) (divisor q j : ℕ) → 0 < divisor → q < 2 ^ 53 → q * 2 ^ j < 2 ^ 2098 → size_of count * 2 ^ 1074 ≡ q * 2 ^ j * divisor
+quotient-exact : (count : ℤ) (divisor q j : ℕ) → 0 < divisor → q < 2 ^ 53 → q * 2 ^ j < 2 ^ 2098 → nat_abs count * 2 ^ 1074 ≡ q * 2 ^ j * divisor
     → IsExact count divisor (quotient count divisor)
 quotient-exact count divisor q j p small fine e =
     value_exact count divisor (q * 2 ^ j) p e (quotient count divisor)
-    (subst (λ (x : Float). HasValue x (is_negative count) (size_of count) divisor) (sym (quotient_is count divisor))
-    (round_exact binary64 (is_negative count) (size_of count) divisor q j p small fine e))
+    (subst (λ (x : Float). HasValue x (is_negative count) (nat_abs count) divisor) (sym (quotient_is count divisor))
+    (round_exact binary64 (is_negative count) (nat_abs count) divisor q j p small fine e))
     (quotient-held count divisor)
 
 zero-quotient : (divisor : ℕ) → 0 < divisor → IsExact (pos 0) divisor (quotient (pos 0) divisor)
 zero-quotient divisor p = quotient-exact (pos 0) divisor 0 0 p (lit< tt) (lit< tt) (sym (zero-mul divisor))
 
-pub units-exact : (count : ℤ) → size_of count ≤ 2 ^ 31 → IsExact count rotation_units (quotient count rotation_units)
+pub units-exact : (count : ℤ) → nat_abs count ≤ 2 ^ 31 → IsExact count rotation_units (quotient count rotation_units)
 units-exact count h =
-    let n = size_of count in
+    let n = nat_abs count in
     let small : n < 2 ^ 53 = lt_of_le_of_lt h (lit< tt) in
     quotient-exact count rotation_units n 1044 (pow_pos 30) small (lt_of_lt_of_le (shl_lt 53 1044 small) (pow_mono {i = 53 + 1044} {j = 2098} (lit≤ tt)))
     (sym (mul_assoc n (2 ^ 1044) (2 ^ 30)))
 
 -- ---- where it is rounded
 
-rounded_nearest : (count : ℤ) (o j : ℕ) → 0 < size_of count → size_of count < 2 ^ 53 → o % 2 ≡ 1 → 2 ^ 52 * (o * 2 ^ j) ≤ 2 ^ 1074
+rounded_nearest : (count : ℤ) (o j : ℕ) → 0 < nat_abs count → nat_abs count < 2 ^ 53 → o % 2 ≡ 1 → 2 ^ 52 * (o * 2 ^ j) ≤ 2 ^ 1074
     → IsNearest count (o * 2 ^ j) (quotient count (o * 2 ^ j))
 rounded_nearest count o j n_pos n_lt o-odd normal =
     go (quotient count D)
@@ -106,7 +106,7 @@ rounded_nearest count o j n_pos n_lt o-odd normal =
     (quotient-held count D)
   where
     n : ℕ
-    n = size_of count
+    n = nat_abs count
 
     D : ℕ
     D = o * 2 ^ j
@@ -127,7 +127,7 @@ rounded_nearest count o j n_pos n_lt o-odd normal =
     }
 
 -- a count below 2 ^ 53, by an o * 2 ^ j of at most 2 ^ 1022 with o odd
-quotient_nearest : (count : ℤ) (o j : ℕ) → size_of count < 2 ^ 53 → o % 2 ≡ 1 → 2 ^ 52 * (o * 2 ^ j) ≤ 2 ^ 1074
+quotient_nearest : (count : ℤ) (o j : ℕ) → nat_abs count < 2 ^ 53 → o % 2 ≡ 1 → 2 ^ 52 * (o * 2 ^ j) ≤ 2 ^ 1074
     → IsNearest count (o * 2 ^ j) (quotient count (o * 2 ^ j))
 quotient_nearest (pos zero) o j n_lt o-odd normal =
     let p : 0 < o * 2 ^ j = mul-pos (odd_pos o o-odd) (pow_pos j) in
@@ -135,10 +135,10 @@ quotient_nearest (pos zero) o j n_lt o-odd normal =
 quotient_nearest (pos (suc n)) o j n_lt o-odd normal = rounded_nearest (pos (suc n)) o j (zero-lt-suc n) n_lt o-odd normal
 quotient_nearest (negsuc n) o j n_lt o-odd normal = rounded_nearest (negsuc n) o j (zero-lt-suc n) n_lt o-odd normal
 
-pub metres_nearest : (count : ℤ) → size_of count ≤ 2 ^ 31 → IsNearest count micrometres (quotient count micrometres)
+pub metres_nearest : (count : ℤ) → nat_abs count ≤ 2 ^ 31 → IsNearest count micrometres (quotient count micrometres)
 metres_nearest count h = quotient_nearest count 15625 6 (lt_of_le_of_lt h (lit< tt)) refl (lit≤ tt)
 
-pub units_nearest : (count : ℤ) → size_of count ≤ 2 ^ 31 → IsNearest count rotation_units (quotient count rotation_units)
+pub units_nearest : (count : ℤ) → nat_abs count ≤ 2 ^ 31 → IsNearest count rotation_units (quotient count rotation_units)
 units_nearest count h = quotient_nearest count 1 30 (lt_of_le_of_lt h (lit< tt)) refl (lit≤ tt)
 
 -- ---- nothing else is
@@ -165,7 +165,7 @@ only_nearest count divisor (inf s) y a b = absurd a
 only_nearest count divisor (fin s p d) nan a b = absurd b
 only_nearest count divisor (fin s p d) (inf t) a b = absurd b
 only_nearest count divisor (fin s p d) (fin t q c) a b =
-    let n = size_of count in
+    let n = nat_abs count in
     let u : Nearer n divisor (units_of p d) (units_of q c) = a.nearest_of_all t q c b.held in
     let v : Nearer n divisor (units_of q c) (units_of p d) = b.nearest_of_all s p d a.held in
     same_double s p d t q c (a.same_sign ∙ sym b.same_sign) a.held b.held
@@ -185,22 +185,22 @@ zero_is_plus divisor p = only_exact (pos 0) divisor p (quotient (pos 0) divisor)
 -- ---- no tie
 
 -- The exact quotient never lies midway between two neighbours: it is nearer to one double than to all others, and that one is not between them.
-pub no_tie : (count : ℤ) (n : ℕ) (c : ℤ) (p : ℕ) (d : ℤ) → size_of count ≤ 2 ^ 31 → Neighbours n c p d
-    → 2 * (size_of count * units_in_one) ≡ (units_of n c + units_of p d) * micrometres → ⊥
+pub no_tie : (count : ℤ) (n : ℕ) (c : ℤ) (p : ℕ) (d : ℤ) → nat_abs count ≤ 2 ^ 31 → Neighbours n c p d
+    → 2 * (nat_abs count * units_in_one) ≡ (units_of n c + units_of p d) * micrometres → ⊥
 no_tie count n c p d h two tie = go (quotient count micrometres) (metres_nearest count h)
   where
     -- from the smaller one or below it, or from the larger one or above it, the other would be no further than a tie
     not_low : (s : Bool) (q : ℕ) (b : ℤ) → NearestQuotient count micrometres s q b → units_of n c < units_of q b
     not_low s q b i =
         lt_of_not-le (λ (a : units_of q b ≤ units_of n c).
-        lt_irrefl (2 * (size_of count * units_in_one))
+        lt_irrefl (2 * (nat_abs count * units_in_one))
         (lt_of_lt_of_le ((i.nearest_of_all false p d two.upper_held).from_above (lt_of_le_of_lt a two.apart))
         (le_trans (mul-le-mul_right micrometres (add-le-add a (le_refl (units_of p d)))) (le_of_eq (sym tie)))))
 
     not_high : (s : Bool) (q : ℕ) (b : ℤ) → NearestQuotient count micrometres s q b → units_of q b < units_of p d
     not_high s q b i =
         lt_of_not-le (λ (a : units_of p d ≤ units_of q b).
-        lt_irrefl (2 * (size_of count * units_in_one))
+        lt_irrefl (2 * (nat_abs count * units_in_one))
         (lt_of_le_of_lt
         (le_trans (le_of_eq (tie ∙ ap (λ (x : ℕ). x * micrometres) (add_comm (units_of n c) (units_of p d)))) (mul-le-mul_right micrometres (add-le-add a (le_refl (units_of n c)))))
         ((i.nearest_of_all false n c two.lower_held).from_below (lt_of_lt_of_le two.apart a))))

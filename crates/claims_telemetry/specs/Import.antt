@@ -1,18 +1,19 @@
 -- What is demanded of the import of packed frames, in words and with places and sizes as numbers: document 02, change 3. "The arm controller sends 30-byte frames: view, camera, three
 -- translations as signed 32-bit micrometres, four rotation numbers as signed 32-bit units of 2 to the −30; low byte first, rotation in the order i, j, k, w." Rests on the nearest
 -- doubles of `Nearest`, and on commands as bytes: how they are written and how a stream is read.
-use Rattle.std.specs.Prelude.{ℕ, suc, ◌+◌, ◌*◌, ◌^◌, ◌≤◌, ◌<◌, ◌≡◌, ◌↔◌, true, List, ◌++◌, length, get_or, take, drop, ℤ, pos, negsuc, Float}
+use Rattle.std.specs.Prelude.{ℕ, suc, ◌+◌, ◌*◌, ◌^◌, ◌≤◌, ◌<◌, ◌≡◌, ◌↔◌, true, List, ◌++◌, length, get_or, take, drop, Err, Ok, ℤ, pos, negsuc, Float}
+use Rattle.std.specs.Float.{binary64}
+use Rattle.std.specs.Float.Ieee.{of_bits}
 use Rattle.lists.specs.Lists.{tabulate}
 use Rattle.arithmetic.specs.Pose.{finite_pose}
 use Rattle.arithmetic.specs.declared.pose.Pose.{Pose}
 use Rattle.refusal.specs.Table.{number_of, detail_of}
 use Rattle.refusal.specs.declared.Refusal.{Refusal}
 use Rattle.command.specs.Framing.{frame, frames, clean, frames_from}
-use Rattle.command.specs.Command.{place, Command, edit, Bytes, width_of, commands_at, complete, parse}
+use Rattle.command.specs.Command.{place, Command, edit, width_of, commands_at, complete, parse}
 use Rattle.command.specs.Writing.{bytes_of}
-use Rattle.telemetry.specs.Frames.{Imported}
+use Rattle.telemetry.specs.Frames.{Bytes, Imported}
 use Rattle.claims_telemetry.specs.Nearest.{IsNearest, IsExact}
-use Rattle.std.specs.Prelude.{Err, Ok}
 
 -- ---- one number
 
@@ -42,6 +43,23 @@ pub record PoseOfFrame (bytes : List ℕ) (at : ℕ) (p : Pose) : Type 0 where
   pub k_exact : RotationAt bytes (at + 22) p.rotation.k
   pub w_exact : RotationAt bytes (at + 26) p.rotation.w
 
+-- Eight bytes from a place on, low byte first, are the bits of this double.
+abbrev pub DoubleAt : List ℕ → ℕ → Float → Type 0
+DoubleAt bytes at x = of_bits binary64 (word_from bytes at + 4294967296 * word_from bytes (at + 4)) ≡ x
+
+-- A Pose command's 59 bytes stand at a place: 2, the view, the camera, and seven floats.
+pub record PoseAt (bytes : List ℕ) (at view camera : ℕ) (p : Pose) : Type 0 where
+  pub pose_byte : get_or bytes at 0 ≡ 2
+  pub view_byte : get_or bytes (at + 1) 0 ≡ view
+  pub camera_byte : get_or bytes (at + 2) 0 ≡ camera
+  pub x_bits : DoubleAt bytes (at + 3) p.translation.x
+  pub y_bits : DoubleAt bytes (at + 11) p.translation.y
+  pub z_bits : DoubleAt bytes (at + 19) p.translation.z
+  pub i_bits : DoubleAt bytes (at + 27) p.rotation.i
+  pub j_bits : DoubleAt bytes (at + 35) p.rotation.j
+  pub k_bits : DoubleAt bytes (at + 43) p.rotation.k
+  pub w_bits : DoubleAt bytes (at + 51) p.rotation.w
+
 -- "Turn a file of frames, in their order, into Pose commands": the command of frame k, whose pose is finite, so that a session never refuses it with 7. It stands in the 59 bytes from 59 * k
 -- on, and whoever reads the answer in a stream, behind any bytes and before any, finds it there.
 pub record CommandOfFrame (bytes commands : List ℕ) (k : ℕ) (command : Command) : Type 0 where
@@ -49,6 +67,7 @@ pub record CommandOfFrame (bytes commands : List ℕ) (k : ℕ) (command : Comma
   pub pose_of_frame : PoseOfFrame bytes (30 * k) pose
   pub pose_finite : finite_pose pose ≡ true
   pub is_place : command ≡ edit (place (get_or bytes (30 * k) 0) (get_or bytes (30 * k + 1) 0) pose)
+  pub its_bytes_read : PoseAt commands (59 * k) (get_or bytes (30 * k) 0) (get_or bytes (30 * k + 1) 0) pose
   pub its_bytes : take 59 (drop (59 * k) commands) ≡ bytes_of command
   pub in_a_stream : (before after : List ℕ) → parse (before ++ (commands ++ after)) (length before + 59 * k) ≡ complete command 59
 

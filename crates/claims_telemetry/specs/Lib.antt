@@ -1,4 +1,3 @@
 -- What is claimed of packed telemetry frames. Definitions only; the proofs are in proofs/.
 pub mod Nearest
 pub mod Import
-pub mod Rows

@@ -1,7 +1,6 @@
 -- Commands in a stream of bytes, by document 01, "A stream arrives", and document 02: "A command is one byte followed by operands of fixed widths. Floats are the 64 bits of an IEEE 754 double, low byte first."
 -- Rests on the poses of `arithmetic`, and on how a table of widths cuts a stream, in `Framing`.
-use Rattle.std.specs.Prelude.{ℕ, ◌+◌, ◌*◌, ◌<◌, cond, List, [], ◌∷◌, get_or, take, drop, eqb, Float}
-use Rattle.std.specs.Prelude.{Option, None, Some}
+use Rattle.std.specs.Prelude.{ℕ, ◌+◌, ◌*◌, cond, List, [], ◌∷◌, get_or, take, drop, eqb, Option, None, Some, Float}
 use Rattle.std.specs.Float.{binary64}
 use Rattle.std.specs.Float.Ieee.{of_bits}
 use Rattle.arithmetic.specs.Pose.{vec3, quaternion, pose}
@@ -43,10 +42,6 @@ solve_width = 1
 
 abbrev pub withdraw_width : ℕ
 withdraw_width = 3
-
--- The elements of a list are bytes.
-abbrev pub Bytes : List ℕ → Type 0
-Bytes stream = (i : ℕ) → get_or stream i 0 < 256
 
 -- Four bytes from `at`, low byte first.
 abbrev pub half_at : List ℕ → ℕ → ℕ

@@ -1,9 +1,8 @@
 -- How a stream is cut into commands, whatever they say: a table gives the width of a command by its first byte, and nothing else is looked at.
 -- Document 01: "A command is one byte followed by operands of fixed widths." Assumes nothing.
 use Prim.Native.Nat.{ℕ, zero, suc, ◌+◌, ◌<◌}
-use Rattle.std.specs.Prelude.{◌≡◌, cond, length, get_or, eqb, leb}
+use Rattle.std.specs.Prelude.{◌≡◌, cond, length, get_or, eqb, leb, Option, None, Some}
 use Rattle.std.proofs.Math.Bool.{true, false}
-use Rattle.std.specs.Prelude.{Option, None, Some}
 use mathlib.Core.List.{List, [], ◌∷◌}
 
 -- ---- one command

@@ -2,7 +2,7 @@
 // not ready; any other failure is told.
 #![tactic(auto)]
 
-ghost use Rattle.std.specs.Prelude.{◌≡◌, ◌<◌, ◌⊎◌, length, take, IfOk, IfErr, OnOk};
+ghost use Rattle.std.specs.Prelude.{ℕ, ◌≡◌, ◌<◌, ◌⊎◌, length, take, IfOk, IfErr, OnOk};
 ghost use Rattle.std.specs.Io.{StartsWith};
 ghost use Rattle.std.specs.Io.KnownBytes.{Appends, Consumes, IsAtEnd};
 ghost use Rattle.std.specs.IoError.{error_kind};
@@ -67,6 +67,7 @@ pub fn read_to_end<C: Clock, R: Read>(
 pub fn write_whole<C: Clock, W: Write>(clock: &C, output: &mut W, bytes: &[u8]) -> io::Result<usize>
     ensures whole { WrittenWhole result bytes.now }
     ensures bytes { OnOk result (Appends (W.contents output.old) (W.contents output.new) bytes.now) }
+    ensures front { IfErr result (λ e. (n : ℕ) × Appends (W.contents output.old) (W.contents output.new) (take n bytes.now)) }
     ensures failed { IfErr result IsTold }
 {
     // Kept: how much is done, beside the memory, since it is the answer.

@@ -4,7 +4,7 @@ use native.Mathlib.Decide.{ℕ_discrete, dec_le}
 use native.Mathlib.Omega.{arith}
 use mathlib.Core.Path.{◌≡◌, refl, sym, ap, ◌∙◌}
 use mathlib.Core.Bool.{Bool, cond}
-use Rattle.std.specs.Prelude.{Option, None, Some}
+use Rattle.std.specs.Prelude.{Option, None, Some, Err, Ok}
 use mathlib.Core.List.{List, [], ◌++◌}
 use lib.ListN.{length, take, drop, length-append}
 use lib.Dec.{leb}
@@ -14,11 +14,10 @@ use Rattle.refusal.specs.declared.Refusal.{Refusal}
 use Rattle.command.specs.Command.{pose_width}
 use Rattle.listing.specs.Listing.{refusal_line, listing_bytes}
 use Rattle.putting.specs.Putting.{Put}
-use Rattle.telemetry.specs.Frames.{frame_bytes, max_frames, command_bytes, frames_refusal, imported_of, import_leaves}
+use Rattle.telemetry.specs.Frames.{Bytes, frame_bytes, max_frames, command_bytes, frames_refusal, imported_of, import_leaves}
 use Rattle.telemetry.proofs.Frames.{frames-broken, frames_many, import_refused, import_passed}
 use Rattle.frames.specs.Told.{refusal_of, output_by, error_by, Told}
 use Rattle.frames.specs.Inner.Room.{room_for}
-use Rattle.std.specs.Prelude.{Err, Ok}
 
 -- Where there are too many frames, what is lent does not matter; else it is as long as their commands.
 room-refusal : (n : ℕ) → frames_refusal n (room_for n) ≡ frames_refusal n (pose_width * (n / frame_bytes))
@@ -51,29 +50,31 @@ module _ (bytes commands : List ℕ) (room : ℕ) (is : room ≡ room_for (lengt
       go None f = (sym lent-refusal ∙ f, (import_passed bytes lent f).1)
 
   -- A refusal: its line, and no commands.
-  pub told-refused : (r : Refusal) (held line line' : List ℕ) (count : ℕ) → imported_of bytes lent ≡ Err r → listing_bytes ≤ length line
+  pub told-refused : Bytes bytes → (r : Refusal) (held line line' : List ℕ) (count : ℕ) → imported_of bytes lent ≡ Err r → listing_bytes ≤ length line
       → Put line 0 (cond (leb listing_bytes (length line)) (refusal_line r) []) line' count → Told bytes (Err count) held line'
   unfolding output_by error_by
-  told-refused r held line line' count e roomy put =
+  told-refused small r held line line' count e roomy put =
       let refused = refused_with r e in
       let shown : Put line 0 (refusal_line r) line' count = rw (le-leb listing_bytes (length line) roomy) at put in
       record {
         to_output = ap (λ (o : Option Refusal). output_by o (command_bytes bytes)) (sym refused);
         to_error = ap (take count) shown.bytes ∙ take_at (refusal_line r) _ count (omega (arith, shown.behind)) ∙ ap error_by (sym refused);
+        of_bytes = small;
         output_within = tt;
         error_within = omega (arith, shown.behind, ap length shown.bytes, length-append (refusal_line r) (drop (0 + length (refusal_line r)) line));
       }
 
   -- Commands, and no line.
-  pub told-commands : (n : ℕ) (left line : List ℕ) → imported_of bytes lent ≡ Ok n → left ≡ import_leaves bytes lent → length left ≡ length lent
+  pub told-commands : Bytes bytes → (n : ℕ) (left line : List ℕ) → imported_of bytes lent ≡ Ok n → left ≡ import_leaves bytes lent → length left ≡ length lent
       → Told bytes (Ok room) (left ++ drop room commands) line
   unfolding output_by error_by
-  told-commands n left line e leaves same =
+  told-commands small n left line e leaves same =
       let passed = passed_with n e in
       let filled : length left ≡ room = same ∙ length-take-le room commands inside in
       record {
         to_output = take_at left (drop room commands) room filled ∙ leaves ∙ passed.1 ∙ ap (λ (o : Option Refusal). output_by o (command_bytes bytes)) (sym passed.0);
         to_error = ap error_by (sym passed.0);
+        of_bytes = small;
         output_within = simp length-append (omega (arith, filled));
         error_within = tt;
       }

@@ -1,12 +1,9 @@
--- What the program `frames` writes, by document 02, change 3, for an input of any length. Rests on the import of packed frames in `telemetry` and the line of a refusal in `listing`.
-use Rattle.std.specs.Prelude.{ℕ, ◌*◌, ◌≤◌, ◌<◌, ◌≡◌, List, [], length, take, Option, None, Some, Result, Ok, Err, IfOk, IfErr}
+-- What goes to standard output and to standard error, by document 02, change 3. Rests on the import of packed frames in `telemetry` and the line of a refusal in `listing`.
+use Rattle.std.specs.Prelude.{ℕ, ◌*◌, ◌≤◌, ◌≡◌, List, [], length, take, Option, None, Some, Result, Ok, Err, IfOk, IfErr}
 use Rattle.refusal.specs.declared.Refusal.{Refusal}
 use Rattle.command.specs.Command.{pose_width}
 use Rattle.listing.specs.Listing.{refusal_line}
-use Rattle.telemetry.specs.Frames.{frames_in, command_bytes, frames_refusal, RefusedAlike}
-use Rattle.frames.specs.declared.Reading.{Reading}
-
--- ---- what goes where
+use Rattle.telemetry.specs.Frames.{Bytes, frames_in, command_bytes, frames_refusal}
 
 -- An answer of the frames' own length is lent, so that 14 and 15 are all that is refused.
 abbrev pub refusal_of : List ℕ → Option Refusal
@@ -21,6 +18,12 @@ unfoldable pub error_by : Option Refusal → List ℕ
 error_by None = []
 error_by (Some r) = refusal_line r
 
+abbrev pub output_of : List ℕ → List ℕ
+output_of bytes = output_by (refusal_of bytes) (command_bytes bytes)
+
+abbrev pub error_of : List ℕ → List ℕ
+error_of bytes = error_by (refusal_of bytes)
+
 -- So many bytes at the front of the commands go to standard output and nothing to standard error, or so many of the line to standard error and nothing to
 -- standard output.
 abbrev pub put_of : Result ℕ ℕ → List ℕ → List ℕ
@@ -33,17 +36,8 @@ told_of (Err count) line = take count line
 
 -- What goes where is what belongs there.
 pub record Told (bytes : List ℕ) (answer : Result ℕ ℕ) (commands line : List ℕ) : Type 0 where
-  pub to_output : put_of answer commands ≡ output_by (refusal_of bytes) (command_bytes bytes)
-  pub to_error : told_of answer line ≡ error_by (refusal_of bytes)
+  pub to_output : put_of answer commands ≡ output_of bytes
+  pub to_error : told_of answer line ≡ error_of bytes
+  pub of_bytes : Bytes bytes
   pub output_within : IfOk answer (λ count. count ≤ length commands)
   pub error_within : IfErr answer (λ count. count ≤ length line)
-
--- ---- inputs of any length
-
-abbrev pub input_bytes : ℕ
-input_bytes = 65536
-
--- What is kept of an input that was read to its end is refused as the whole of it would be, and where that passes it is all of it.
-pub record Taken (reading : Reading) : Type 0 where
-  pub within : reading.kept < input_bytes
-  pub alike : RefusedAlike reading.kept reading.whole

@@ -1,82 +1,97 @@
 // Reads packed telemetry frames from standard input and writes their Pose commands to standard output, for a pipe into `rig`. A refusal is one line on standard
-// error, and then nothing goes to standard output. What cannot be read or written is told on standard error.
+// error, and then nothing goes to standard output. What cannot be read or written is told on standard error, too.
 #![tactic(auto)]
 
-ghost use Rattle.std.specs.Prelude.{◌≤◌, ◌≡◌, length, IfOk};
+ghost use Rattle.std.specs.Prelude.{◌≤◌, ◌≡◌, length, take, IfOk, IfErr, OnOk};
 ghost use Rattle.listing.specs.Listing.{listing_bytes};
-ghost use Rattle.frames.specs.Told.{input_bytes, Told, Taken};
-ghost use Rattle.frames.specs.Inner.Room.{max_commands, room_for};
+ghost use Rattle.frames.specs.Told.{Told};
+ghost use Rattle.frames.specs.Turned.{Taken, Turned, Untold};
+ghost use Rattle.frames.specs.Inner.Room.{input_bytes, max_commands, room_for};
 
 use command::parse::POSE_WIDTH;
 use descriptors::{read_to_end, tell, write_whole};
 use listing::{LISTING_BYTES, write_refusal};
 use putting::Writer;
 use std::io;
-use std::io::{Error, ErrorKind, Read};
+use std::io::{Error, ErrorKind, Read, Write};
 use std::process::ExitCode;
 use std::time::Clock;
 use telemetry::{FRAME_BYTES, MAX_FRAMES, import_frames, shortened};
 
-// More than a file of frames may have; what a longer one has beyond it is read and counted, and not kept.
+// More than a file of frames may have; what a longer one has beyond it is read, and not kept.
 const INPUT_BYTES: usize = 65536;
 
 const COMMAND_BYTES: usize = POSE_WIDTH * MAX_FRAMES;
 
-// The memory is filled so often at most, so that the loop ends: that takes 2^62 bytes, more than is ever read.
-const MOST_FILLINGS: u64 = 0x8000_0000_0000;
+// The memory is filled so often at most, so that the loop ends: that takes 2^78 bytes, more than is ever read.
+const MOST_FILLINGS: u64 = 9223372036854775807;
 
-// How many bytes at the memory's front stand for the input, and how many bytes it had.
+// What failed: reading the input, or writing the commands, or the line of a refusal.
 #[derive(Drop)]
-pub struct Reading {
-    pub kept: usize,
-    pub whole: u64,
+pub enum Failed {
+    Input(Error),
+    Output(Error),
+    Line(Error),
 }
 
-// An input that cannot be read to its end is not turned into commands at all.
 fn main(rt: HostRuntime) -> ExitCode {
-    let mut input = [0u8; INPUT_BYTES];
-    let kept = match read_frames(&rt, &mut rt.stdin(), &mut input) {
-        Ok(reading) => reading.kept,
-        Err(error) => {
+    match turn_input(&rt, &mut rt.stdin(), &mut rt.stdout(), &mut rt.stderr()) {
+        Ok(()) => ExitCode::SUCCESS,
+        // Where standard error fails, it cannot be told there.
+        Err(Failed::Line(_)) => ExitCode::FAILURE,
+        Err(Failed::Input(error)) => {
             tell(&rt, "frames: standard input", error);
-            return ExitCode::FAILURE;
+            ExitCode::FAILURE
         }
+        Err(Failed::Output(error)) => {
+            tell(&rt, "frames: standard output", error);
+            ExitCode::FAILURE
+        }
+    }
+}
+
+// The whole input turned into commands on one output, or refused by a line on the other. An input that cannot be read to its end is not turned at all.
+fn turn_input<C: Clock, I: Read, O: Write, E: Write>(
+    clock: &C,
+    input: &mut I,
+    output: &mut O,
+    errors: &mut E,
+) -> Result<(), Failed>
+    // Where the input's bytes are known, and the outputs', these are the input's last ones, and the outputs gain what belongs there.
+    ensures turned { OnOk result (Turned (I.remaining input.old) (I.remaining input.new) (O.contents output.old) (O.contents output.new) (E.contents errors.old) (E.contents errors.new)) }
+    ensures failed { IfErr result (λ failed. Untold failed (I.remaining input.old) (I.remaining input.new) (O.contents output.old) (O.contents output.new) (E.contents errors.old) (E.contents errors.new)) }
+{
+    let mut memory = [0u8; INPUT_BYTES];
+    let kept = match read_frames(clock, input, &mut memory) {
+        Ok(kept) => kept,
+        Err(error) => return Err(Failed::Input(error)),
     };
     let mut commands = [0u8; COMMAND_BYTES];
     let mut line = [0u8; LISTING_BYTES];
-    match turn_frames(&input[..kept], &mut commands, &mut line) {
-        Ok(put) => {
-            if let Err(error) = write_whole(&rt, &mut rt.stdout(), &commands[..put]) {
-                tell(&rt, "frames: standard output", error);
-                return ExitCode::FAILURE;
-            }
-        }
-        // A line that nobody takes is not told of.
-        Err(told) => {
-            let _told = write_whole(&rt, &mut rt.stderr(), &line[..told]);
-        }
+    match turn_frames(&memory[..kept], &mut commands, &mut line) {
+        Ok(put) => match write_whole(clock, output, &commands[..put]) {
+            Ok(_) => Ok(()),
+            Err(error) => Err(Failed::Output(error)),
+        },
+        Err(told) => match write_whole(clock, errors, &line[..told]) {
+            Ok(_) => Ok(()),
+            Err(error) => Err(Failed::Line(error)),
+        },
     }
-    ExitCode::SUCCESS
 }
 
-// The whole input: where it is longer than any that passes, what is kept is refused alike.
-fn read_frames<C: Clock, I: Read>(
-    clock: &C,
-    input: &mut I,
-    memory: &mut [u8],
-) -> io::Result<Reading>
+// Reads the input to its end, and answers how many bytes at the memory's front stand for it: where it is longer than any that passes, they are refused alike.
+fn read_frames<C: Clock, I: Read>(clock: &C, input: &mut I, memory: &mut [u8]) -> io::Result<usize>
     requires { length memory.old ≡ input_bytes }
-    ensures { IfOk result Taken }
+    ensures { IfOk result (λ kept. (kept ≤ length memory.new) × Taken (I.remaining input.old) (I.remaining input.new) (take kept memory.new)) }
 {
-    // Kept: how much is kept, beside the memory, since it is in the answer.
+    // Kept: how much is kept, beside the memory, since it is the answer.
     let mut kept = 0;
-    let mut whole = 0;
     for _ in 0..MOST_FILLINGS {
         let got = read_to_end(clock, input, &mut memory[kept..])?;
-        whole += got as u64;
         kept += got;
         if kept < INPUT_BYTES {
-            return Ok(Reading { kept, whole });
+            return Ok(kept);
         }
         kept = shortened(kept);
     }

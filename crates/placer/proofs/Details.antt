@@ -5,7 +5,7 @@ use native.Mathlib.Nat.{mul-le-mul}
 use native.Mathlib.Omega.{arith}
 use mathlib.Core.Path.{◌≡◌}
 use mathlib.Core.Bool.{Bool, not, ◌||◌}
-use Rattle.std.specs.Prelude.{Some}
+use Rattle.std.specs.Prelude.{Some, None}
 use mathlib.Core.List.{List, [], ◌∷◌}
 use lib.ListN.{length, get_or}
 use lib.Pow.{pow_mono}
@@ -27,7 +27,6 @@ use Rattle.inputs.proofs.InTurn.{ShortDetail, Small, if_first_of, if_refuse_if, 
 use Rattle.lists.proofs.Lowest.{lowest_passes}
 use Rattle.lists.proofs.PowerSums.{power_sum-lt}
 use Rattle.extrinsics.proofs.DirectCall.{input_sizes}
-use Rattle.std.specs.Prelude.{None}
 
 -- A number that was found below n is small if n is.
 small_lowest : (test : ℕ → Bool) (n : ℕ) → n ≤ 2 ^ 32 → (i : ℕ) → lowest test n ≡ Some i → i < 2 ^ 32

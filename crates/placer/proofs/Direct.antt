@@ -7,9 +7,8 @@ use mathlib.Core.List.{List}
 use lib.ListN.{length}
 use lib.Ieee.{Float}
 use Rattle.refusal.specs.declared.Refusal.{Refusal}
-use Rattle.extrinsics.specs.Outcome.{outcome_of}
+use Rattle.extrinsics.specs.Outcome.{outcome_of, Outcome}
 use Rattle.extrinsics.specs.Direct.{Direct, direct_refusal}
-use Rattle.extrinsics.specs.Outcome.{Outcome}
 use Rattle.placer.specs.Code.{code_of_outcome}
 use Rattle.placer.specs.Exports.{Estimated}
 use Rattle.placer.specs.Reading.{outcome_in, DirectReply}

@@ -5,7 +5,7 @@ use native.Mathlib.Omega.{arith}
 use mathlib.Core.Path.{◌≡◌, refl, ap, ap₂, ◌∙◌}
 use mathlib.Core.Logic.{◌↔◌}
 use mathlib.Core.Bool.{Bool, cond}
-use Rattle.std.specs.Prelude.{Option, None, Some}
+use Rattle.std.specs.Prelude.{Option, None, Some, Err, Ok}
 use borrow.Author.Tests.{ne_eqb, lt-ltb, le-ltb}
 use Rattle.refusal.specs.Table.{number_of, detail_of}
 use Rattle.refusal.specs.declared.Refusal.{Refusal}
@@ -16,7 +16,6 @@ use Rattle.shared_query.specs.Query.{Shared}
 use Rattle.telemetry.specs.Frames.{Imported}
 use Rattle.placer.specs.Code.{code_of, code_of_outcome, code_of_refusal, code_of_reply, code_of_shared, code_of_imported}
 use Rattle.placer.specs.Reading.{number_in, detail_in, refusals_with, with_number, refusal_in, outcome_in, reply_in, shared_in, imported_in}
-use Rattle.std.specs.Prelude.{Err, Ok}
 use Rattle.session_commands.specs.declared.Done.TheVariants.{Accepted, End, Solved}
 
 -- ---- refusals

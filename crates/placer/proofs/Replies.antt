@@ -11,9 +11,8 @@ use Rattle.arithmetic.specs.declared.pose.Pose.{Pose}
 use Rattle.refusal.specs.declared.Refusal.{Refusal}
 use Rattle.refusal.specs.declared.Refusal.TheVariants.{WrongLength}
 use Rattle.averaging.specs.Entry.{averaged_by}
-use Rattle.extrinsics.specs.Outcome.{outcome_of}
+use Rattle.extrinsics.specs.Outcome.{outcome_of, Outcome}
 use Rattle.extrinsics.specs.Direct.{Direct, direct_refusal}
-use Rattle.extrinsics.specs.Outcome.{Outcome}
 use Rattle.shared_query.specs.Query.{shared_answer}
 use Rattle.session_record.specs.declared.Session.{Session}
 use Rattle.record_words.specs.Words.{session_in, is_record, record_in}

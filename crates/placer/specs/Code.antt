@@ -1,7 +1,6 @@
 -- Answers as one 64-bit number: for a refusal number times 2 ^ 32 plus detail, and 0 where nothing is refused; for a command also 1 where it was accepted and 2 where
 -- it solved a rig; for the query the count, and for packed frames how many there were. Rests on the table of refusals.
-use Rattle.std.specs.Prelude.{ℕ, ◌+◌, ◌*◌, ◌^◌}
-use Rattle.std.specs.Prelude.{Option, None, Some}
+use Rattle.std.specs.Prelude.{ℕ, ◌+◌, ◌*◌, ◌^◌, Option, None, Some, Err, Ok}
 use Rattle.refusal.specs.Table.{number_of, detail_of}
 use Rattle.refusal.specs.declared.Refusal.{Refusal}
 use Rattle.averaging.specs.Entry.{Averaged}
@@ -9,7 +8,6 @@ use Rattle.extrinsics.specs.Outcome.{Outcome}
 use Rattle.session_commands.specs.Reply.{Reply}
 use Rattle.shared_query.specs.Query.{Shared}
 use Rattle.telemetry.specs.Frames.{Imported}
-use Rattle.std.specs.Prelude.{Err, Ok}
 use Rattle.session_commands.specs.declared.Done.TheVariants.{Accepted, End, Solved}
 
 abbrev pub code_of : Refusal → ℕ

@@ -1,11 +1,10 @@
 -- What each export answers, and what its lent answers are after it, over their full length. Rests on `Code`, and on the outcomes of `averaging`, `extrinsics`,
 -- `shared_query` and `telemetry`.
-use Rattle.std.specs.Prelude.{ℕ, ◌≡◌, cond, List, ◌++◌, length, drop, Float}
+use Rattle.std.specs.Prelude.{ℕ, ◌≡◌, cond, List, ◌++◌, length, drop, Float, Err, Ok}
 use Rattle.arithmetic.specs.Pose.{flat}
 use Rattle.arithmetic.specs.declared.pose.Pose.{Pose}
 use Rattle.refusal.specs.declared.Refusal.TheVariants.{WrongLength}
-use Rattle.averaging.specs.Entry.{averaged_of}
-use Rattle.averaging.specs.Entry.{Averaged}
+use Rattle.averaging.specs.Entry.{averaged_of, Averaged}
 use Rattle.placing.specs.Estimate.{transforms, chains}
 use Rattle.extrinsics.specs.Outcome.{answered}
 use Rattle.extrinsics.specs.Direct.{direct_grid, direct_refusal}
@@ -13,7 +12,6 @@ use Rattle.shared_query.specs.Query.{shared_answer}
 use Rattle.telemetry.specs.Frames.{imported_of, import_leaves}
 use Rattle.record_words.specs.Words.{session_in, is_record}
 use Rattle.placer.specs.Code.{code_of, code_of_averaged, code_of_refusal, code_of_shared, code_of_imported}
-use Rattle.std.specs.Prelude.{Err, Ok}
 
 -- What the lent seven floats of a mean are afterwards: a refusal writes nothing.
 unfoldable pub mean_after : Averaged → List Float → List Float

@@ -1,7 +1,7 @@
 -- What a caller reads in a reply, as include/placer.h has it: the number of a refusal in its upper 32 bits and the detail in its lower,
 -- and so the outcome of the direct call, what the session replies, what the query answers, or what packed frames came to. Then what the replies of `placer_estimate` and `placer_step` are in
 -- terms of the direct call and of the session's call. Rests on the table of refusals and on both calls.
-use Rattle.std.specs.Prelude.{ℕ, ◌*◌, ◌/◌, ◌%◌, ◌^◌, ◌≤◌, ◌<◌, ◌≡◌, cond, List, [], ◌∷◌, length, eqb, ltb, Float}
+use Rattle.std.specs.Prelude.{ℕ, ◌*◌, ◌/◌, ◌%◌, ◌^◌, ◌≤◌, ◌<◌, ◌≡◌, cond, List, [], ◌∷◌, length, eqb, ltb, Float, Err, Ok}
 use Rattle.refusal.specs.Table.{number_of}
 use Rattle.refusal.specs.declared.Refusal.{Refusal}
 use Rattle.refusal.specs.declared.Refusal.TheVariants.{InsufficientData, TooMany, InvalidReference, CountDiffers, WrongLength, BadMark, NotFinite, Unreached, EmptyView, UnknownCommand, Truncated, OutsideRig, TooLong, BrokenFrame, TooManyFrames, NoSize, SizeAgain, HeldAlready, NotHeld}
@@ -14,7 +14,6 @@ use Rattle.shared_query.specs.Query.{Shared}
 use Rattle.telemetry.specs.Frames.{Imported}
 use Rattle.record_words.specs.Words.{words_of}
 use Rattle.placer.specs.Code.{code_of_outcome, code_of_reply}
-use Rattle.std.specs.Prelude.{Err, Ok}
 use Rattle.session_commands.specs.declared.Done.TheVariants.{Accepted, End, Solved}
 
 abbrev pub number_in : ℕ → ℕ

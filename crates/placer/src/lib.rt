@@ -5,6 +5,7 @@
 ghost use Rattle.std.specs.Prelude.{◌≡◌, length};
 ghost use Rattle.record_words.specs.Words.{record_words};
 ghost use Rattle.root.specs.Root.{root_of, IsRootOf};
+ghost use Rattle.telemetry.specs.Frames.{Bytes};
 ghost use Rattle.placer.specs.Exports.{AveragedInto, Estimated, shared_reply, ImportedInto};
 ghost use Rattle.placer.specs.Step.{Stepped};
 ghost use Rattle.placer.specs.Inner.Records.{words_kept};
@@ -124,7 +125,8 @@ pub fn placer_shared(session: &[u64], first: u8, second: u8) -> u64
 
 // Packed telemetry frames as Pose commands, in their order, into lent bytes, 59 a frame. Answers how many frames there were. Refuses 14, 15 and 5.
 pub fn placer_frames(frames: &[u8], commands: &mut [u8]) -> u64
-    ensures { ImportedInto frames.now commands.old result commands.new }
+    ensures imported { ImportedInto frames.now commands.old result commands.new }
+    ensures of_bytes { Bytes frames.now }
 {
     answer_code(import_frames(frames, commands))
 }

@@ -4,7 +4,7 @@ use native.Mathlib.Nat.{add-zero, mul-zero, add_assoc}
 use native.Mathlib.Decide.{ℕ_discrete, dec_le}
 use native.Mathlib.Omega.{arith}
 use mathlib.Core.Path.{◌≡◌, refl, sym, ap, ◌∙◌, subst}
-use Rattle.std.specs.Prelude.{Option, None, Some}
+use Rattle.std.specs.Prelude.{Option, None, Some, Err, Ok}
 use mathlib.Core.List.{List}
 use lib.ListN.{length, get_or, take, drop}
 use lib.Seq.{drop-drop}
@@ -22,7 +22,6 @@ use Rattle.putting.specs.Putting.{Puts}
 use Rattle.putting.specs.declared.Writer.{Writer}
 use Rattle.putting.proofs.Putting.{puts_next}
 use Rattle.telemetry.specs.Frames.{frame_bytes, max_frames, metres_at, rotation_at, packed_pose, packed_command, frames_in, command_bytes, frames_refusal, imported_by, left_by, imported_of, import_leaves, max_bytes, RefusedAlike}
-use Rattle.std.specs.Prelude.{Err, Ok}
 
 -- ---- frames alone
 

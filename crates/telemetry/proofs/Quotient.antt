@@ -7,7 +7,7 @@ use native.Mathlib.Omega.{arith}
 use mathlib.Core.Path.{◌≡◌, refl, sym, ap, ◌∙◌, subst}
 use mathlib.Core.Bool.{Bool, true, false, cond}
 use lib.Dec.{eqb, lit<, lit≤}
-use lib.IntN.{ℤ, pos, negsuc}
+use lib.IntN.{ℤ, pos, negsuc, nat_abs}
 use lib.Pow.{pow-add, pow_mono, pow-lt, shl_lt}
 use lib.Ieee.{Float, nan, inf, fin, binary64, up, down, minus, unlike, size, odd, units, round, div, of_int}
 use lib.Ieee.Digits.{size-le}
@@ -17,11 +17,6 @@ use lib.Ieee.Scale.{round_same, finite}
 use Rattle.std.specs.Int.{w32, cast_signed}
 use borrow.Author.Tests.{lt-ltb, le-ltb, lt-leb, ne_eqb}
 use Rattle.telemetry.specs.Quotient.{count_of, quotient}
-
--- The size of a count; `negsuc n` is −(n + 1).
-abbrev pub size_of : ℤ → ℕ
-size_of (pos n) = n
-size_of (negsuc n) = suc n
 
 -- ---- a word's count
 
@@ -69,7 +64,7 @@ divided (fin t p e) (fin u q g) s n d v w h =
     ∙ ap (λ (b : Bool). round binary64 b (p * up e * down g) (q * up g * down e)) (unlike_plus t ∙ v.0)
     ∙ round_same binary64 s (p * up e * down g) (q * up g * down e) n d below h (cross (p * up e) (q * up g) n d (down e) (down g) v.1 w.1)
 
-div-quotient : (count : ℤ) (units : ℕ) → size_of count ≤ 2 ^ 31 → 0 < units → units < 2 ^ 32
+div-quotient : (count : ℤ) (units : ℕ) → nat_abs count ≤ 2 ^ 31 → 0 < units → units < 2 ^ 32
     → div binary64 (of_int binary64 count) (of_int binary64 (pos units)) ≡ quotient count units
 unfolding quotient of_int
 div-quotient (pos n) units h k l = divided (round binary64 false n 1) (round binary64 false units 1) false n units (whole_value false n (lt_of_le_of_lt h (lit< tt))) (whole_value false units (lt_of_lt_of_le l (lit≤ tt))) k
@@ -77,10 +72,10 @@ div-quotient (negsuc n) units h k l = divided (round binary64 true (suc n) 1) (r
 
 -- ---- over the range of a word
 
-pub count_of_size : (word : ℕ) → word < 2 ^ 32 → size_of (count_of word) ≤ 2 ^ 31
+pub count_of_size : (word : ℕ) → word < 2 ^ 32 → nat_abs (count_of word) ≤ 2 ^ 31
 count_of_size word h = go (dec_lt word (2 ^ 31))
   where
-    go : Dec (word < 2 ^ 31) → size_of (count_of word) ≤ 2 ^ 31
+    go : Dec (word < 2 ^ 31) → nat_abs (count_of word) ≤ 2 ^ 31
     go (yes low) = rw (count_of_low word low) (omega arith)
     go (no high) = let above : 2 ^ 31 ≤ word = omega arith in rw (count_of_high word above h) (omega arith)
 
@@ -118,7 +113,7 @@ pub quotient_finite : (word d : ℕ) → word < 2 ^ 32 → finite (quotient (cou
 unfolding quotient
 quotient_finite word d h = go (count_of word) (count_of_size word h)
   where
-    go : (count : ℤ) → size_of count ≤ 2 ^ 31 → finite (quotient count d) ≡ true
+    go : (count : ℤ) → nat_abs count ≤ 2 ^ 31 → finite (quotient count d) ≡ true
     go (pos n) l = finite_round false n d l
     go (negsuc n) l = finite_round true (suc n) d l
 

@@ -1,8 +1,7 @@
 -- Packed telemetry frames turned into Pose commands, by document 02, change 3: "The arm controller sends 30-byte frames: view, camera, three translations as signed 32-bit micrometres,
 -- four rotation numbers as signed 32-bit units of 2 to the −30; low byte first, rotation in the order i, j, k, w. Turn a file of frames, in their order, into Pose commands, in
 -- metres." Rests on the commands of `command`, the poses of `arithmetic`, the table of refusals, and the numbers of `Quotient`.
-use Rattle.std.specs.Prelude.{ℕ, ◌+◌, ◌*◌, ◌/◌, ◌%◌, ◌≡◌, not, cond, List, [], ◌∷◌, length, get_or, eqb, leb, ltb, Float}
-use Rattle.std.specs.Prelude.{Option, None, Some}
+use Rattle.std.specs.Prelude.{ℕ, ◌+◌, ◌*◌, ◌/◌, ◌%◌, ◌<◌, ◌≡◌, not, cond, List, [], ◌∷◌, length, get_or, eqb, leb, ltb, Option, None, Some, Result, Err, Ok, Float}
 use Rattle.lists.specs.Lists.{gather}
 use Rattle.arithmetic.specs.Pose.{vec3, quaternion, pose}
 use Rattle.arithmetic.specs.declared.pose.Pose.{Pose}
@@ -12,7 +11,6 @@ use Rattle.refusal.specs.declared.Refusal.TheVariants.{WrongLength, BrokenFrame,
 use Rattle.command.specs.Command.{place, Command, edit, pose_width, half_at}
 use Rattle.command.specs.Writing.{bytes_of}
 use Rattle.telemetry.specs.Quotient.{count_of, quotient, micrometres, rotation_units}
-use Rattle.std.specs.Prelude.{Result, Err, Ok}
 
 abbrev pub frame_bytes : ℕ
 frame_bytes = 30
@@ -43,6 +41,10 @@ unfolding packed_pose
 packed_command bytes at = edit (place (get_or bytes at 0) (get_or bytes (at + 1) 0) (packed_pose bytes at))
 
 -- ---- a file of frames
+
+-- The elements of a list are bytes.
+abbrev pub Bytes : List ℕ → Type 0
+Bytes file = (i : ℕ) → get_or file i 0 < 256
 
 abbrev pub frames_in : List ℕ → ℕ
 frames_in bytes = length bytes / frame_bytes

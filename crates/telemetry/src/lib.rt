@@ -5,7 +5,7 @@ ghost use Rattle.std.specs.Prelude.{◌+◌, ◌*◌, ◌<◌, ◌≡◌, true, 
 ghost use Rattle.arithmetic.specs.Pose.{finite_pose};
 ghost use Rattle.command.specs.Command.{pose_width};
 ghost use Rattle.inputs.specs.Inputs.{checked_of};
-ghost use Rattle.telemetry.specs.Frames.{frame_bytes, packed_pose, frames_in, command_bytes, frames_refusal, imported_of, import_leaves, max_bytes, kept_length, RefusedAlike};
+ghost use Rattle.telemetry.specs.Frames.{Bytes, frame_bytes, packed_pose, frames_in, command_bytes, frames_refusal, imported_of, import_leaves, max_bytes, kept_length, RefusedAlike};
 
 mod numbers;
 
@@ -78,6 +78,8 @@ fn put_commands(frames: &[u8], commands: &mut [u8])
 pub fn import_frames(frames: &[u8], commands: &mut [u8]) -> Result<u32, Refusal>
     ensures value { result ≡ imported_of frames.now commands.old }
     ensures commands_after { commands.new ≡ import_leaves frames.now commands.old }
+    // What every caller lends are bytes, of which the demand in words speaks.
+    ensures of_bytes { Bytes frames.now }
 {
     check_frames(frames.len(), commands.len())?;
     put_commands(frames, commands);

@@ -1,6 +1,5 @@
 -- What the functions that read commands promise, beside the definitions of `Command`. Assumes nothing.
-use Rattle.std.specs.Prelude.{ℕ, ◌+◌, ◌≤◌, ◌≡◌, List, length, get_or}
-use Rattle.std.specs.Prelude.{cond, Float, Option, None, Some, Result, Ok, Err}
+use Rattle.std.specs.Prelude.{ℕ, ◌+◌, ◌≤◌, ◌≡◌, List, length, get_or, cond, Float, Option, None, Some, Result, Ok, Err}
 use Rattle.std.specs.Float.Ieee.Scale.{finite}
 use Rattle.arithmetic.specs.Pose.{finite_pose}
 use Rattle.arithmetic.specs.declared.pose.Pose.{Pose as PoseOfNumbers}

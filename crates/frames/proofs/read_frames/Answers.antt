@@ -1,19 +1,22 @@
--- What is kept is refused as what was read would be, for more bytes too. Assumes nothing.
+-- What was read stands behind what is kept, and where the memory is full a shorter length stands for all of it. Assumes nothing.
 use borrow.Author.Rules.{rules}
-use Rattle.std.proofs.Common.{◌+◌}
-use Rattle.telemetry.proofs.Frames.{alike_more, alike_through}
+use Rattle.descriptors.proofs.Front.{take-put_mid_within}
+use Rattle.frames.proofs.Turning.{kept_more, kept_shorter, kept_taken}
 use Rattle.frames.proofs.read_frames.Goals as goal
 
 pub returns-then-kept-lt-INPUT_BYTES : goal.returns-then-kept-lt-INPUT_BYTES
 returns-then-kept-lt-INPUT_BYTES g c =
     let l = c.loop in
-    record { within = c.if-kept-lt-INPUT_BYTES.true; alike = alike_more l.kept l.whole c.in_ok-got.got l.invariant.2 }
+    let got = c.in_ok-got in
+    let part = c.read_to_end.new.memory in
+    let more = kept_more part got.got l.invariant.1 (search rules) (search rules) got.ensures.bytes (take-put_mid_within l.kept _ got.got l.memory part (search rules) (search rules)) in
+    (search rules, kept_taken more (search rules) (got.ensures.end (search rules)))
 
 pub loop-preserved : goal.loop-preserved
 loop-preserved g c =
     let l = c.loop in
-    let got = c.in_ok-got.got in (
-      c.shortened-kept.ensures.2,
-      search rules,
-      alike_through c.shortened-kept.result (l.kept + got) (l.whole + got) c.shortened-kept.ensures.1 (alike_more l.kept l.whole got l.invariant.2),
-    )
+    let got = c.in_ok-got in
+    let part = c.read_to_end.new.memory in
+    let more = kept_more part got.got l.invariant.1 (search rules) (search rules) got.ensures.bytes (take-put_mid_within l.kept _ got.got l.memory part (search rules) (search rules)) in
+    let shorter = c.shortened-kept.ensures in
+    (search rules, kept_shorter c.shortened-kept.result more (search rules) shorter.0 shorter.1 shorter.2)

@@ -1,14 +1,11 @@
 -- Words, frames and lengths beside what they come to, worked out by hand from document 02, change 3, the doubles by exact fractions. Where code and definition change together, the rows
 -- hold the definitions, at these alone. Rests on the import of packed frames.
-use Rattle.std.specs.Prelude.{ℕ, List, [], ◌∷◌, ◌++◌, replicate}
-use Rattle.std.specs.Prelude.{Option, None, Some}
+use Rattle.std.specs.Prelude.{ℕ, List, [], ◌∷◌, ◌++◌, replicate, Option, None, Some, Err, Ok}
 use Rattle.std.specs.Float.{binary64}
 use Rattle.std.specs.Float.Ieee.{to_bits}
 use Rattle.refusal.specs.Table.{number_of, detail_of}
 use Rattle.refusal.specs.declared.Refusal.{Refusal}
-use Rattle.telemetry.specs.Frames.{metres_at, rotation_at, command_bytes, frames_refusal, imported_of, import_leaves}
-use Rattle.telemetry.specs.Frames.{Imported}
-use Rattle.std.specs.Prelude.{Err, Ok}
+use Rattle.telemetry.specs.Frames.{metres_at, rotation_at, command_bytes, frames_refusal, Imported, imported_of, import_leaves}
 
 -- What the definitions compute, and what the row says.
 pub record Row : Type 0 where

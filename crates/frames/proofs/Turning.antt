@@ -1,0 +1,140 @@
+-- What stands for an input: a read of more, a length in place of a longer one, and what both outputs gain. Assumes nothing.
+use Prim.Native.Nat.{ℕ, ◌+◌, ◌*◌, ◌%◌, ◌≤◌, ◌<◌}
+use native.Mathlib.Decide.{ℕ_discrete, dec_le}
+use native.Mathlib.Nat.{add-zero}
+use native.Mathlib.Omega.{arith}
+use mathlib.Core.Path.{◌≡◌, refl, sym, ap, ◌∙◌, subst}
+use mathlib.Core.List.{List, [], ◌++◌}
+use lib.ListN.{length, take, length-append}
+use lib.Seq.{length-take-le}
+use Rattle.std.specs.Prelude.{Option, Some, Result, Ok, Err}
+use Rattle.std.specs.Io.KnownBytes.{Appends, Consumes, IsAtEnd}
+use Rattle.std.proofs.KnownBytes.{Appends-nil, Consumes-nil, Consumes-trans, Keeps-refl}
+use Rattle.std.specs.declared.io.Error.{Error}
+use Rattle.refusal.specs.declared.Refusal.{Refusal}
+use Rattle.refusal.specs.declared.Refusal.TheVariants.{BrokenFrame, TooManyFrames}
+use Rattle.command.specs.Command.{pose_width}
+use Rattle.listing.specs.Listing.{refusal_line}
+use Rattle.telemetry.specs.Frames.{Bytes, frame_bytes, max_bytes, frames_in, command_bytes, frames_refusal, kept_length, RefusedAlike}
+use Rattle.telemetry.proofs.Frames.{frames-broken, frames_many, alike_self, alike_more, alike_through}
+use Rattle.frames.specs.declared.Failed.TheVariants.{Output, Line}
+use Rattle.frames.specs.Told.{refusal_of, output_by, error_by, output_of, error_of, put_of, told_of, Told}
+use Rattle.frames.specs.Inner.Room.{input_bytes}
+use Rattle.frames.specs.Turned.{StandsFor, Taken, Turned, Untold}
+
+-- ---- read so far
+
+-- So many bytes at the memory's front stand for all that was read.
+pub record Kept (old new : Option (List ℕ)) (kept : ℕ) (memory : List ℕ) : Type 0 where
+  pub all : List ℕ
+  pub read : Consumes old new all
+  pub alike : RefusedAlike kept (length all)
+  pub within : kept ≤ length all
+  pub is_all : length all ≤ max_bytes → take kept memory ≡ all
+
+pub kept_none : (input : Option (List ℕ)) (memory : List ℕ) → Kept input input 0 memory
+kept_none input memory = record { all = []; read = Consumes-nil input; alike = alike_self 0; within = omega arith; is_all = λ h. refl }
+
+-- So many bytes more, behind those that are kept.
+pub kept_more : {old mid new : Option (List ℕ)} {kept : ℕ} {memory memory' : List ℕ} (part : List ℕ) (got : ℕ) → Kept old mid kept memory → kept ≤ length memory
+    → got ≤ length part → Consumes mid new (take got part) → take (kept + got) memory' ≡ take kept memory ++ take got part → Kept old new (kept + got) memory'
+kept_more {old} {mid} {new} {kept} {memory} {memory'} part got k roomy fits read is =
+    let longer : length (k.all ++ take got part) ≡ length k.all + got = length-append k.all (take got part) ∙ ap (λ (n : ℕ). length k.all + n) (length-take-le got part fits) in
+    record {
+      all = k.all ++ take got part;
+      read = Consumes-trans old mid new k.all (take got part) k.read read;
+      alike = subst (RefusedAlike (kept + got)) (sym longer) (alike_more kept (length k.all) got k.alike);
+      within = omega (arith, longer, k.within);
+      is_all = λ h. is ∙ ap (λ (l : List ℕ). l ++ take got part) (k.is_all (omega (arith, longer, h)));
+    }
+
+-- A full memory holds more than what may pass; a shorter length stands for it.
+pub kept_shorter : {old new : Option (List ℕ)} {kept : ℕ} {memory : List ℕ} (shorter : ℕ) → Kept old new kept memory → input_bytes ≤ kept → shorter ≡ kept_length kept
+    → RefusedAlike shorter kept → shorter < max_bytes + 2 * frame_bytes → Kept old new shorter memory
+kept_shorter {old} {new} {kept} {memory} shorter k full is alike below =
+    let fewer : shorter ≤ length k.all = omega (arith, k.within) in
+    record {
+      all = k.all;
+      read = k.read;
+      alike = alike_through shorter kept (length k.all) alike k.alike;
+      within = fewer;
+      is_all = λ h. absurd (omega (arith, k.within));
+    }
+
+pub kept_taken : {old new : Option (List ℕ)} {kept : ℕ} {memory : List ℕ} → Kept old new kept memory → kept ≤ length memory → IsAtEnd new → Taken old new (take kept memory)
+kept_taken {old} {new} {kept} {memory} k roomy ended =
+    record {
+      all = k.all;
+      read = (k.read, ended);
+      stands = record { alike = subst (λ (n : ℕ). RefusedAlike n (length k.all)) (sym (length-take-le kept memory roomy)) k.alike; is_all = k.is_all };
+    }
+
+-- ---- what belongs where
+
+-- What is longer than any input that passes is refused, whatever is lent.
+long_refused : (n : ℕ) → max_bytes < n → (r : Refusal) × ((lent : ℕ) → frames_refusal n lent ≡ Some r)
+long_refused n long = go (ℕ_discrete (n % frame_bytes) 0)
+  where
+    go : Dec (n % frame_bytes ≡ 0) → (r : Refusal) × ((lent : ℕ) → frames_refusal n lent ≡ Some r)
+    go (yes whole) = (TooManyFrames, λ lent. frames_many n lent whole (omega arith))
+    go (no broken) = (BrokenFrame, λ lent. frames-broken n lent broken)
+
+pub refused-output : (bytes : List ℕ) (r : Refusal) → refusal_of bytes ≡ Some r → (output_of bytes ≡ []) × (error_of bytes ≡ refusal_line r)
+unfolding output_by error_by
+refused-output bytes r e = (ap (λ (o : Option Refusal). output_by o (command_bytes bytes)) e, ap error_by e)
+
+-- What stands for an input is told what the input is.
+pub stands-alike : (kept all : List ℕ) → StandsFor kept all → (output_of kept ≡ output_of all) × (error_of kept ≡ error_of all)
+stands-alike kept all stands = go (dec_le (length all) max_bytes)
+  where
+    same : (lent : ℕ) → frames_refusal (length kept) lent ≡ frames_refusal (length all) lent
+    same lent =
+        ap (λ (n : ℕ). frames_refusal n lent) (sym (add-zero (length kept)))
+        ∙ stands.alike 0 lent
+        ∙ ap (λ (n : ℕ). frames_refusal n lent) (add-zero (length all))
+
+    go : Dec (length all ≤ max_bytes) → (output_of kept ≡ output_of all) × (error_of kept ≡ error_of all)
+    go (yes short) = (ap output_of (stands.is_all short), ap error_of (stands.is_all short))
+    go (no long) =
+        let (r, refused) = long_refused (length all) (omega arith) in
+        let one = refused-output kept r (same (pose_width * frames_in kept) ∙ refused (pose_width * frames_in kept)) in
+        let other = refused-output all r (refused (pose_width * frames_in all)) in
+        (one.0 ∙ sym other.0, one.1 ∙ sym other.1)
+
+-- ---- what both outputs gain
+
+module _ {old new : Option (List ℕ)} {kept commands line : List ℕ} (answer : Result ℕ ℕ) (count : ℕ) (taken : Taken old new kept) (told : Told kept answer commands line) where
+  abbrev alike : (output_of kept ≡ output_of taken.all) × (error_of kept ≡ error_of taken.all)
+  alike = stands-alike kept taken.all taken.stands
+
+  bytes_all : length taken.all ≤ max_bytes → Bytes taken.all
+  bytes_all short = subst Bytes (taken.stands.is_all short) told.of_bytes
+
+  pub turned_commands : {output output' : Option (List ℕ)} → answer ≡ Ok count → Appends output output' (take count commands) → (errors : Option (List ℕ)) → Turned old new output output' errors errors
+  turned_commands {output} {output'} is puts errors = record {
+    all = taken.all;
+    read = taken.read;
+    to_output = subst (Appends output output') (ap (λ (a : Result ℕ ℕ). put_of a commands) (sym is) ∙ told.to_output ∙ alike.0) puts;
+    to_error = subst (Appends errors errors) (ap (λ (a : Result ℕ ℕ). told_of a line) (sym is) ∙ told.to_error ∙ alike.1) (Appends-nil errors);
+    of_bytes = bytes_all;
+  }
+
+  pub turned_line : {output output' : Option (List ℕ)} → answer ≡ Err count → Appends output output' (take count line) → (commands_to : Option (List ℕ)) → Turned old new commands_to commands_to output output'
+  turned_line {output} {output'} is tells commands_to = record {
+    all = taken.all;
+    read = taken.read;
+    to_output = subst (Appends commands_to commands_to) (ap (λ (a : Result ℕ ℕ). put_of a commands) (sym is) ∙ told.to_output ∙ alike.0) (Appends-nil commands_to);
+    to_error = subst (Appends output output') (ap (λ (a : Result ℕ ℕ). told_of a line) (sym is) ∙ told.to_error ∙ alike.1) tells;
+    of_bytes = bytes_all;
+  }
+
+  -- A part of it, where an output fails.
+  pub untold_commands : (output output' errors : Option (List ℕ)) (front : ℕ) (e : Error) → answer ≡ Ok count → Appends output output' (take front (take count commands))
+      → Untold (Output e) old new output output' errors errors
+  untold_commands output output' errors front e is puts =
+      (taken.all, front, taken.read, subst (λ (l : List ℕ). Appends output output' (take front l)) (ap (λ (a : Result ℕ ℕ). put_of a commands) (sym is) ∙ told.to_output ∙ alike.0) puts, Keeps-refl errors)
+
+  pub untold_line : (output output' commands_to : Option (List ℕ)) (front : ℕ) (e : Error) → answer ≡ Err count → Appends output output' (take front (take count line))
+      → Untold (Line e) old new commands_to commands_to output output'
+  untold_line output output' commands_to front e is tells =
+      (taken.all, front, taken.read, subst (λ (l : List ℕ). Appends output output' (take front l)) (ap (λ (a : Result ℕ ℕ). told_of a line) (sym is) ∙ told.to_error ∙ alike.1) tells, Keeps-refl commands_to)
