@@ -57,6 +57,7 @@ module _ (bytes commands : List ℕ) (room : ℕ) (is : room ≡ room_for (lengt
       let refused = refused_with r e in
       let shown : Put line 0 (refusal_line r) line' count = rw (le-leb listing_bytes (length line) roomy) at put in
       record {
+        decided = (r, refused);
         to_output = ap (λ (o : Option Refusal). output_by o (command_bytes bytes)) (sym refused);
         to_error = ap (take count) shown.bytes ∙ take_at (refusal_line r) _ count (omega (arith, shown.behind)) ∙ ap error_by (sym refused);
         of_bytes = small;
@@ -72,6 +73,7 @@ module _ (bytes commands : List ℕ) (room : ℕ) (is : room ≡ room_for (lengt
       let passed = passed_with n e in
       let filled : length left ≡ room = same ∙ length-take-le room commands inside in
       record {
+        decided = passed.0;
         to_output = take_at left (drop room commands) room filled ∙ leaves ∙ passed.1 ∙ ap (λ (o : Option Refusal). output_by o (command_bytes bytes)) (sym passed.0);
         to_error = ap error_by (sym passed.0);
         of_bytes = small;

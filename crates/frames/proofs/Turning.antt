@@ -7,7 +7,7 @@ use mathlib.Core.Path.{◌≡◌, refl, sym, ap, ◌∙◌, subst}
 use mathlib.Core.List.{List, [], ◌++◌}
 use lib.ListN.{length, take, length-append}
 use lib.Seq.{length-take-le}
-use Rattle.std.specs.Prelude.{Option, Some, Result, Ok, Err}
+use Rattle.std.specs.Prelude.{Option, None, Some, Result, Ok, Err}
 use Rattle.std.specs.Io.KnownBytes.{Appends, Consumes, IsAtEnd}
 use Rattle.std.proofs.KnownBytes.{Appends-nil, Consumes-nil, Consumes-trans, Keeps-refl}
 use Rattle.std.specs.declared.io.Error.{Error}
@@ -17,8 +17,9 @@ use Rattle.command.specs.Command.{pose_width}
 use Rattle.listing.specs.Listing.{refusal_line}
 use Rattle.telemetry.specs.Frames.{Bytes, frame_bytes, max_bytes, frames_in, command_bytes, frames_refusal, kept_length, RefusedAlike}
 use Rattle.telemetry.proofs.Frames.{frames-broken, frames_many, alike_self, alike_more, alike_through}
+use Rattle.descriptors.specs.Moved.{IsTold}
 use Rattle.frames.specs.declared.Failed.TheVariants.{Output, Line}
-use Rattle.frames.specs.Told.{refusal_of, output_by, error_by, output_of, error_of, put_of, told_of, Told}
+use Rattle.frames.specs.Told.{refusal_of, output_by, error_by, output_of, error_of, put_of, told_of, Decided, Told}
 use Rattle.frames.specs.Inner.Room.{input_bytes}
 use Rattle.frames.specs.Turned.{StandsFor, Taken, Turned, Untold}
 
@@ -84,7 +85,7 @@ unfolding output_by error_by
 refused-output bytes r e = (ap (λ (o : Option Refusal). output_by o (command_bytes bytes)) e, ap error_by e)
 
 -- What stands for an input is told what the input is.
-pub stands-alike : (kept all : List ℕ) → StandsFor kept all → (output_of kept ≡ output_of all) × (error_of kept ≡ error_of all)
+pub stands-alike : (kept all : List ℕ) → StandsFor kept all → (output_of kept ≡ output_of all) × (error_of kept ≡ error_of all) × (refusal_of kept ≡ refusal_of all)
 stands-alike kept all stands = go (dec_le (length all) max_bytes)
   where
     same : (lent : ℕ) → frames_refusal (length kept) lent ≡ frames_refusal (length all) lent
@@ -93,18 +94,20 @@ stands-alike kept all stands = go (dec_le (length all) max_bytes)
         ∙ stands.alike 0 lent
         ∙ ap (λ (n : ℕ). frames_refusal n lent) (add-zero (length all))
 
-    go : Dec (length all ≤ max_bytes) → (output_of kept ≡ output_of all) × (error_of kept ≡ error_of all)
-    go (yes short) = (ap output_of (stands.is_all short), ap error_of (stands.is_all short))
+    go : Dec (length all ≤ max_bytes) → (output_of kept ≡ output_of all) × (error_of kept ≡ error_of all) × (refusal_of kept ≡ refusal_of all)
+    go (yes short) = (ap output_of (stands.is_all short), ap error_of (stands.is_all short), ap refusal_of (stands.is_all short))
     go (no long) =
         let (r, refused) = long_refused (length all) (omega arith) in
-        let one = refused-output kept r (same (pose_width * frames_in kept) ∙ refused (pose_width * frames_in kept)) in
-        let other = refused-output all r (refused (pose_width * frames_in all)) in
-        (one.0 ∙ sym other.0, one.1 ∙ sym other.1)
+        let refused_kept : refusal_of kept ≡ Some r = same (pose_width * frames_in kept) ∙ refused (pose_width * frames_in kept) in
+        let refused_all : refusal_of all ≡ Some r = refused (pose_width * frames_in all) in
+        let one = refused-output kept r refused_kept in
+        let other = refused-output all r refused_all in
+        (one.0 ∙ sym other.0, one.1 ∙ sym other.1, refused_kept ∙ sym refused_all)
 
 -- ---- what both outputs gain
 
 module _ {old new : Option (List ℕ)} {kept commands line : List ℕ} (answer : Result ℕ ℕ) (count : ℕ) (taken : Taken old new kept) (told : Told kept answer commands line) where
-  abbrev alike : (output_of kept ≡ output_of taken.all) × (error_of kept ≡ error_of taken.all)
+  abbrev alike : (output_of kept ≡ output_of taken.all) × (error_of kept ≡ error_of taken.all) × (refusal_of kept ≡ refusal_of taken.all)
   alike = stands-alike kept taken.all taken.stands
 
   bytes_all : length taken.all ≤ max_bytes → Bytes taken.all
@@ -129,12 +132,14 @@ module _ {old new : Option (List ℕ)} {kept commands line : List ℕ} (answer :
   }
 
   -- A part of it, where an output fails.
-  pub untold_commands : (output output' errors : Option (List ℕ)) (front : ℕ) (e : Error) → answer ≡ Ok count → Appends output output' (take front (take count commands))
+  pub untold_commands : (output output' errors : Option (List ℕ)) (front : ℕ) (e : Error) → IsTold e → answer ≡ Ok count → Appends output output' (take front (take count commands))
       → Untold (Output e) old new output output' errors errors
-  untold_commands output output' errors front e is puts =
-      (taken.all, front, taken.read, subst (λ (l : List ℕ). Appends output output' (take front l)) (ap (λ (a : Result ℕ ℕ). put_of a commands) (sym is) ∙ told.to_output ∙ alike.0) puts, Keeps-refl errors)
+  untold_commands output output' errors front e tells is puts =
+      let passed : refusal_of kept ≡ None = subst (Decided kept) is told.decided in
+      (taken.all, front, tells, taken.read, sym alike.2 ∙ passed, subst (λ (l : List ℕ). Appends output output' (take front l)) (ap (λ (a : Result ℕ ℕ). put_of a commands) (sym is) ∙ told.to_output ∙ alike.0) puts, Keeps-refl errors)
 
-  pub untold_line : (output output' commands_to : Option (List ℕ)) (front : ℕ) (e : Error) → answer ≡ Err count → Appends output output' (take front (take count line))
+  pub untold_line : (output output' commands_to : Option (List ℕ)) (front : ℕ) (e : Error) → IsTold e → answer ≡ Err count → Appends output output' (take front (take count line))
       → Untold (Line e) old new commands_to commands_to output output'
-  untold_line output output' commands_to front e is tells =
-      (taken.all, front, taken.read, subst (λ (l : List ℕ). Appends output output' (take front l)) (ap (λ (a : Result ℕ ℕ). told_of a line) (sym is) ∙ told.to_error ∙ alike.1) tells, Keeps-refl commands_to)
+  untold_line output output' commands_to front e says is tells =
+      let refused : (r : Refusal) × (refusal_of kept ≡ Some r) = subst (Decided kept) is told.decided in
+      (taken.all, front, refused.0, says, taken.read, sym alike.2 ∙ refused.1, subst (λ (l : List ℕ). Appends output output' (take front l)) (ap (λ (a : Result ℕ ℕ). told_of a line) (sym is) ∙ told.to_error ∙ alike.1) tells, Keeps-refl commands_to)

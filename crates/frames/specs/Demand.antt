@@ -11,7 +11,7 @@ pub record FramesDemand (bytes output error : List ℕ) : Type 0 where
   pub too_many : (n : ℕ) → length bytes ≡ 30 * n → 1024 < n → (output ≡ []) × (error ≡ 110 ∷ 111 ∷ 32 ∷ 49 ∷ 53 ∷ 32 ∷ 48 ∷ 10 ∷ [])
   pub turned : Bytes bytes → (n : ℕ) → length bytes ≡ 30 * n → n ≤ 1024 → CommandsOfFrames bytes n output × (error ≡ [])
 
--- A run over memory, where nothing fails: the input, and what both outputs held before and hold then.
+-- A run over memory, where nothing fails: all that the input had left, and what both outputs held before and hold then.
 pub record RunDemand (input output error : List ℕ) (output' error' : Option (List ℕ)) : Type 0 where
   pub commands : List ℕ
   pub line : List ℕ

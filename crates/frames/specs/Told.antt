@@ -34,8 +34,14 @@ abbrev pub told_of : Result ℕ ℕ → List ℕ → List ℕ
 told_of (Ok count) line = []
 told_of (Err count) line = take count line
 
+-- Nothing is refused, or something is.
+abbrev pub Decided : List ℕ → Result ℕ ℕ → Type 0
+Decided bytes (Ok count) = refusal_of bytes ≡ None
+Decided bytes (Err count) = (r : Refusal) × (refusal_of bytes ≡ Some r)
+
 -- What goes where is what belongs there.
 pub record Told (bytes : List ℕ) (answer : Result ℕ ℕ) (commands line : List ℕ) : Type 0 where
+  pub decided : Decided bytes answer
   pub to_output : put_of answer commands ≡ output_of bytes
   pub to_error : told_of answer line ≡ error_of bytes
   pub of_bytes : Bytes bytes

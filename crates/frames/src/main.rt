@@ -4,6 +4,7 @@
 
 ghost use Rattle.std.specs.Prelude.{◌≤◌, ◌≡◌, length, take, IfOk, IfErr, OnOk};
 ghost use Rattle.listing.specs.Listing.{listing_bytes};
+ghost use Rattle.descriptors.specs.Moved.{IsTold};
 ghost use Rattle.frames.specs.Told.{Told};
 ghost use Rattle.frames.specs.Turned.{Taken, Turned, Untold};
 ghost use Rattle.frames.specs.Inner.Room.{input_bytes, max_commands, room_for};
@@ -57,7 +58,7 @@ fn turn_input<C: Clock, I: Read, O: Write, E: Write>(
     output: &mut O,
     errors: &mut E,
 ) -> Result<(), Failed>
-    // Where the input's bytes are known, and the outputs', these are the input's last ones, and the outputs gain what belongs there.
+    // Where std knows the input's bytes, all that were left are read; and where it knows an output's, those that belong there for them are added.
     ensures turned { OnOk result (Turned (I.remaining input.old) (I.remaining input.new) (O.contents output.old) (O.contents output.new) (E.contents errors.old) (E.contents errors.new)) }
     ensures failed { IfErr result (λ failed. Untold failed (I.remaining input.old) (I.remaining input.new) (O.contents output.old) (O.contents output.new) (E.contents errors.old) (E.contents errors.new)) }
 {
@@ -83,7 +84,8 @@ fn turn_input<C: Clock, I: Read, O: Write, E: Write>(
 // Reads the input to its end, and answers how many bytes at the memory's front stand for it: where it is longer than any that passes, they are refused alike.
 fn read_frames<C: Clock, I: Read>(clock: &C, input: &mut I, memory: &mut [u8]) -> io::Result<usize>
     requires { length memory.old ≡ input_bytes }
-    ensures { IfOk result (λ kept. (kept ≤ length memory.new) × Taken (I.remaining input.old) (I.remaining input.new) (take kept memory.new)) }
+    ensures taken { IfOk result (λ kept. (kept ≤ length memory.new) × Taken (I.remaining input.old) (I.remaining input.new) (take kept memory.new)) }
+    ensures failed { IfErr result IsTold }
 {
     // Kept: how much is kept, beside the memory, since it is the answer.
     let mut kept = 0;

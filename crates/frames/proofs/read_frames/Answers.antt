@@ -4,8 +4,8 @@ use Rattle.descriptors.proofs.Front.{take-put_mid_within}
 use Rattle.frames.proofs.Turning.{kept_more, kept_shorter, kept_taken}
 use Rattle.frames.proofs.read_frames.Goals as goal
 
-pub returns-then-kept-lt-INPUT_BYTES : goal.returns-then-kept-lt-INPUT_BYTES
-returns-then-kept-lt-INPUT_BYTES g c =
+pub returns-then-kept-lt-INPUT_BYTES-clause-taken : goal.returns-then-kept-lt-INPUT_BYTES-clause-taken
+returns-then-kept-lt-INPUT_BYTES-clause-taken g c =
     let l = c.loop in
     let got = c.in_ok-got in
     let part = c.read_to_end.new.memory in

@@ -6,24 +6,24 @@ pub returns-in-Ok-write_whole-clause-turned : goal.returns-in-Ok-write_whole-cla
 returns-in-Ok-write_whole-clause-turned g c =
     let turn = c.turn_frames in
     let put = c.in-Ok-turn_frames in
-    turned_commands turn.result put.put c.in-Ok.ensures.1 turn.ensures put.is c.in-Ok-write_whole.ensures.bytes _
+    turned_commands turn.result put.put c.in-Ok.ensures.taken.1 turn.ensures put.is c.in-Ok-write_whole.ensures.bytes _
 
 pub returns-in-Ok-write_whole-2-clause-turned : goal.returns-in-Ok-write_whole-2-clause-turned
 returns-in-Ok-write_whole-2-clause-turned g c =
     let turn = c.turn_frames in
     let told = c.in-Err-turn_frames in
-    turned_line turn.result told.told c.in-Ok.ensures.1 turn.ensures told.is c.in-Ok-write_whole-2.ensures.bytes _
+    turned_line turn.result told.told c.in-Ok.ensures.taken.1 turn.ensures told.is c.in-Ok-write_whole-2.ensures.bytes _
 
 pub returns-in-Err-write_whole-clause-failed : goal.returns-in-Err-write_whole-clause-failed
 returns-in-Err-write_whole-clause-failed g c =
     let turn = c.turn_frames in
     let put = c.in-Ok-turn_frames in
     let failed = c.in-Err-write_whole in
-    untold_commands turn.result put.put c.in-Ok.ensures.1 turn.ensures _ _ _ failed.ensures.front.0 failed.error put.is failed.ensures.front.1
+    untold_commands turn.result put.put c.in-Ok.ensures.taken.1 turn.ensures _ _ _ failed.ensures.front.0 failed.error failed.ensures.failed put.is failed.ensures.front.1
 
 pub returns-in-Err-write_whole-2-clause-failed : goal.returns-in-Err-write_whole-2-clause-failed
 returns-in-Err-write_whole-2-clause-failed g c =
     let turn = c.turn_frames in
     let told = c.in-Err-turn_frames in
     let failed = c.in-Err-write_whole-2 in
-    untold_line turn.result told.told c.in-Ok.ensures.1 turn.ensures _ _ _ failed.ensures.front.0 failed.error told.is failed.ensures.front.1
+    untold_line turn.result told.told c.in-Ok.ensures.taken.1 turn.ensures _ _ _ failed.ensures.front.0 failed.error failed.ensures.failed told.is failed.ensures.front.1
