@@ -3,20 +3,20 @@ use Prim.Native.Nat.{ℕ, ◌+◌, ◌*◌, ◌%◌, ◌≤◌, ◌<◌}
 use native.Mathlib.Decide.{ℕ_discrete, dec_le}
 use native.Mathlib.Nat.{add-zero}
 use native.Mathlib.Omega.{arith}
-use mathlib.Core.Path.{◌≡◌, refl, sym, ap, ◌∙◌, subst}
+use mathlib.Core.Path.{◌≡◌, sym, ap, ◌∙◌, subst}
 use mathlib.Core.List.{List, [], ◌++◌}
 use lib.ListN.{length, take, length-append}
 use lib.Seq.{length-take-le}
 use Rattle.std.specs.Prelude.{Option, None, Some, Result, Ok, Err}
 use Rattle.std.specs.Io.KnownBytes.{Appends, Consumes, IsAtEnd}
-use Rattle.std.proofs.KnownBytes.{Appends-nil, Consumes-nil, Consumes-trans, Keeps-refl}
+use Rattle.std.proofs.KnownBytes.{Appends-nil, Consumes-trans, Keeps-refl}
 use Rattle.std.specs.declared.io.Error.{Error}
 use Rattle.refusal.specs.declared.Refusal.{Refusal}
 use Rattle.refusal.specs.declared.Refusal.TheVariants.{BrokenFrame, TooManyFrames}
 use Rattle.command.specs.Command.{pose_width}
 use Rattle.listing.specs.Listing.{refusal_line}
-use Rattle.telemetry.specs.Frames.{Bytes, frame_bytes, max_bytes, frames_in, command_bytes, frames_refusal, kept_length, RefusedAlike}
-use Rattle.telemetry.proofs.Frames.{frames-broken, frames_many, alike_self, alike_more, alike_through}
+use Rattle.telemetry.specs.Frames.{Bytes, frame_bytes, max_bytes, frames_in, command_bytes, frames_refusal, RefusedAlike}
+use Rattle.telemetry.proofs.Frames.{frames-broken, frames_many, alike_more, alike_through}
 use Rattle.descriptors.specs.Moved.{IsTold}
 use Rattle.frames.specs.declared.Failed.TheVariants.{Output, Line}
 use Rattle.frames.specs.Told.{refusal_of, output_by, error_by, output_of, error_of, put_of, told_of, Decided, Told}
@@ -33,13 +33,10 @@ pub record Kept (old new : Option (List ℕ)) (kept : ℕ) (memory : List ℕ) :
   pub within : kept ≤ length all
   pub is_all : length all ≤ max_bytes → take kept memory ≡ all
 
-pub kept_none : (input : Option (List ℕ)) (memory : List ℕ) → Kept input input 0 memory
-kept_none input memory = record { all = []; read = Consumes-nil input; alike = alike_self 0; within = omega arith; is_all = λ h. refl }
-
 -- So many bytes more, behind those that are kept.
-pub kept_more : {old mid new : Option (List ℕ)} {kept : ℕ} {memory memory' : List ℕ} (part : List ℕ) (got : ℕ) → Kept old mid kept memory → kept ≤ length memory
+pub kept_more : {old mid new : Option (List ℕ)} {kept : ℕ} {memory memory' : List ℕ} (part : List ℕ) (got : ℕ) → Kept old mid kept memory
     → got ≤ length part → Consumes mid new (take got part) → take (kept + got) memory' ≡ take kept memory ++ take got part → Kept old new (kept + got) memory'
-kept_more {old} {mid} {new} {kept} {memory} {memory'} part got k roomy fits read is =
+kept_more {old} {mid} {new} {kept} {memory} {memory'} part got k fits read is =
     let longer : length (k.all ++ take got part) ≡ length k.all + got = length-append k.all (take got part) ∙ ap (λ (n : ℕ). length k.all + n) (length-take-le got part fits) in
     record {
       all = k.all ++ take got part;
@@ -50,17 +47,15 @@ kept_more {old} {mid} {new} {kept} {memory} {memory'} part got k roomy fits read
     }
 
 -- A full memory holds more than what may pass; a shorter length stands for it.
-pub kept_shorter : {old new : Option (List ℕ)} {kept : ℕ} {memory : List ℕ} (shorter : ℕ) → Kept old new kept memory → input_bytes ≤ kept → shorter ≡ kept_length kept
-    → RefusedAlike shorter kept → shorter < max_bytes + 2 * frame_bytes → Kept old new shorter memory
-kept_shorter {old} {new} {kept} {memory} shorter k full is alike below =
-    let fewer : shorter ≤ length k.all = omega (arith, k.within) in
-    record {
-      all = k.all;
-      read = k.read;
-      alike = alike_through shorter kept (length k.all) alike k.alike;
-      within = fewer;
-      is_all = λ h. absurd (omega (arith, k.within));
-    }
+pub kept_shorter : {old new : Option (List ℕ)} {kept : ℕ} {memory : List ℕ} (shorter : ℕ) → Kept old new kept memory → input_bytes ≤ kept → RefusedAlike shorter kept
+    → shorter < max_bytes + 2 * frame_bytes → Kept old new shorter memory
+kept_shorter {old} {new} {kept} {memory} shorter k full alike below = record {
+  all = k.all;
+  read = k.read;
+  alike = alike_through shorter kept (length k.all) alike k.alike;
+  within = omega (arith, k.within);
+  is_all = λ h. absurd (omega (arith, k.within));
+}
 
 pub kept_taken : {old new : Option (List ℕ)} {kept : ℕ} {memory : List ℕ} → Kept old new kept memory → kept ≤ length memory → IsAtEnd new → Taken old new (take kept memory)
 kept_taken {old} {new} {kept} {memory} k roomy ended =
@@ -110,6 +105,13 @@ module _ {old new : Option (List ℕ)} {kept commands line : List ℕ} (answer :
   abbrev alike : (output_of kept ≡ output_of taken.all) × (error_of kept ≡ error_of taken.all) × (refusal_of kept ≡ refusal_of taken.all)
   alike = stands-alike kept taken.all taken.stands
 
+  -- What is put and what is told are what belongs there for all of the input.
+  all_put : (a : Result ℕ ℕ) → answer ≡ a → put_of a commands ≡ output_of taken.all
+  all_put a is = ap (λ (b : Result ℕ ℕ). put_of b commands) (sym is) ∙ told.to_output ∙ alike.0
+
+  all_told : (a : Result ℕ ℕ) → answer ≡ a → told_of a line ≡ error_of taken.all
+  all_told a is = ap (λ (b : Result ℕ ℕ). told_of b line) (sym is) ∙ told.to_error ∙ alike.1
+
   bytes_all : length taken.all ≤ max_bytes → Bytes taken.all
   bytes_all short = subst Bytes (taken.stands.is_all short) told.of_bytes
 
@@ -117,8 +119,8 @@ module _ {old new : Option (List ℕ)} {kept commands line : List ℕ} (answer :
   turned_commands {output} {output'} is puts errors = record {
     all = taken.all;
     read = taken.read;
-    to_output = subst (Appends output output') (ap (λ (a : Result ℕ ℕ). put_of a commands) (sym is) ∙ told.to_output ∙ alike.0) puts;
-    to_error = subst (Appends errors errors) (ap (λ (a : Result ℕ ℕ). told_of a line) (sym is) ∙ told.to_error ∙ alike.1) (Appends-nil errors);
+    to_output = subst (Appends output output') (all_put (Ok count) is) puts;
+    to_error = subst (Appends errors errors) (all_told (Ok count) is) (Appends-nil errors);
     of_bytes = bytes_all;
   }
 
@@ -126,8 +128,8 @@ module _ {old new : Option (List ℕ)} {kept commands line : List ℕ} (answer :
   turned_line {output} {output'} is tells commands_to = record {
     all = taken.all;
     read = taken.read;
-    to_output = subst (Appends commands_to commands_to) (ap (λ (a : Result ℕ ℕ). put_of a commands) (sym is) ∙ told.to_output ∙ alike.0) (Appends-nil commands_to);
-    to_error = subst (Appends output output') (ap (λ (a : Result ℕ ℕ). told_of a line) (sym is) ∙ told.to_error ∙ alike.1) tells;
+    to_output = subst (Appends commands_to commands_to) (all_put (Err count) is) (Appends-nil commands_to);
+    to_error = subst (Appends output output') (all_told (Err count) is) tells;
     of_bytes = bytes_all;
   }
 
@@ -136,10 +138,10 @@ module _ {old new : Option (List ℕ)} {kept commands line : List ℕ} (answer :
       → Untold (Output e) old new output output' errors errors
   untold_commands output output' errors front e tells is puts =
       let passed : refusal_of kept ≡ None = subst (Decided kept) is told.decided in
-      (taken.all, front, tells, taken.read, sym alike.2 ∙ passed, subst (λ (l : List ℕ). Appends output output' (take front l)) (ap (λ (a : Result ℕ ℕ). put_of a commands) (sym is) ∙ told.to_output ∙ alike.0) puts, Keeps-refl errors)
+      (taken.all, front, tells, taken.read, sym alike.2 ∙ passed, subst (λ (l : List ℕ). Appends output output' (take front l)) (all_put (Ok count) is) puts, Keeps-refl errors)
 
   pub untold_line : (output output' commands_to : Option (List ℕ)) (front : ℕ) (e : Error) → IsTold e → answer ≡ Err count → Appends output output' (take front (take count line))
       → Untold (Line e) old new commands_to commands_to output output'
   untold_line output output' commands_to front e says is tells =
       let refused : (r : Refusal) × (refusal_of kept ≡ Some r) = subst (Decided kept) is told.decided in
-      (taken.all, front, refused.0, says, taken.read, sym alike.2 ∙ refused.1, subst (λ (l : List ℕ). Appends output output' (take front l)) (ap (λ (a : Result ℕ ℕ). told_of a line) (sym is) ∙ told.to_error ∙ alike.1) tells, Keeps-refl commands_to)
+      (taken.all, front, refused.0, says, taken.read, sym alike.2 ∙ refused.1, subst (λ (l : List ℕ). Appends output output' (take front l)) (all_told (Err count) is) tells, Keeps-refl commands_to)
