@@ -2,5 +2,6 @@
 pub mod Writing
 pub mod Digits
 pub mod Fields
+pub mod Fitting
 pub mod WrittenCalls
 pub mod Rows

@@ -11,7 +11,7 @@ mod text;
 
 use crate::lines::{put_refusal, put_solved};
 use limits::{CHAIN_BYTES, MAX_CAMERAS, MAX_VIEWS, POSE_FLOATS};
-use placing::answer::LentAnswers;
+use placing::answer::GivenAnswers;
 use putting::Writer;
 use refusal::Refusal;
 use session_commands::Done;
@@ -25,7 +25,7 @@ pub const LISTING_BYTES: usize = 10139;
 pub fn write_reply(
     reply: Result<Done, Refusal>,
     held: Held,
-    answers: &LentAnswers<'_>,
+    answers: &GivenAnswers<'_>,
     writer: &mut Writer<'_>,
 )
     ensures { Puts writer.old (written reply held answers.now.transforms.now answers.now.chains.now (length writer.old.bytes.now - writer.old.used)) writer.new }
@@ -38,7 +38,7 @@ pub fn write_reply(
 }
 
 #[tactic(auto, using(putting::proofs::Putting::puts_nothing), unfolding(crate::specs::Listing::written, crate::specs::Listing::fits, crate::specs::Listing::reply_text, crate::specs::Listing::sized))]
-fn write_solved(held: Held, answers: &LentAnswers<'_>, writer: &mut Writer<'_>)
+fn write_solved(held: Held, answers: &GivenAnswers<'_>, writer: &mut Writer<'_>)
     ensures { Puts writer.old (written (Ok Solved) held answers.now.transforms.now answers.now.chains.now (length writer.old.bytes.now - writer.old.used)) writer.new }
 {
     if is_sized(held, answers) && LISTING_BYTES <= writer.room() {
@@ -56,7 +56,7 @@ pub fn write_refusal(refusal: Refusal, writer: &mut Writer<'_>)
 }
 
 #[tactic(auto, unfolding(crate::specs::Listing::sized))]
-fn is_sized(held: Held, answers: &LentAnswers<'_>) -> bool
+fn is_sized(held: Held, answers: &GivenAnswers<'_>) -> bool
     ensures { result ≡ sized held answers.now.transforms.now answers.now.chains.now }
 {
     let cameras = usize::from(held.cameras);

@@ -11,7 +11,7 @@ ghost use Rattle.listing.specs.Inner.Refusals.{refusal_bytes};
 use crate::text::{NEWLINE, put_number, put_pose};
 use arithmetic::pose::Pose;
 use limits::{CHAIN_BYTES, LINKS_PLACE, POSE_FLOATS};
-use placing::answer::LentAnswers;
+use placing::answer::GivenAnswers;
 use putting::Writer;
 use refusal::Refusal;
 use session_record::Held;
@@ -59,7 +59,7 @@ fn put_view(writer: &mut Writer<'_>, index: u8, pose: Pose)
     put_pose(writer, pose);
 }
 
-fn put_cameras(writer: &mut Writer<'_>, cameras: u8, answers: &LentAnswers<'_>)
+fn put_cameras(writer: &mut Writer<'_>, cameras: u8, answers: &GivenAnswers<'_>)
     requires has_room { writer.old.used + camera_bytes pose_floats * cameras ≤ length writer.old.bytes.now }
     requires answers_hold { (pose_floats * cameras ≤ length answers.now.transforms.now) × (second_needs cameras ≤ length answers.now.chains.now) }
     ensures put { Puts writer.old (gather cameras (camera_line_at pose_fields answers.now.transforms.now answers.now.chains.now)) writer.new }
@@ -74,7 +74,7 @@ fn put_cameras(writer: &mut Writer<'_>, cameras: u8, answers: &LentAnswers<'_>)
     }
 }
 
-fn put_views(writer: &mut Writer<'_>, cameras: u8, views: u8, answers: &LentAnswers<'_>)
+fn put_views(writer: &mut Writer<'_>, cameras: u8, views: u8, answers: &GivenAnswers<'_>)
     requires has_room { writer.old.used + view_bytes pose_floats * views ≤ length writer.old.bytes.now }
     requires answer_holds { first_needs cameras views ≤ length answers.now.transforms.now }
     ensures { Puts writer.old (gather views (view_line_at pose_fields answers.now.transforms.now cameras)) writer.new }
@@ -85,7 +85,7 @@ fn put_views(writer: &mut Writer<'_>, cameras: u8, views: u8, answers: &LentAnsw
     }
 }
 
-pub(crate) fn put_solved(writer: &mut Writer<'_>, held: Held, answers: &LentAnswers<'_>)
+pub(crate) fn put_solved(writer: &mut Writer<'_>, held: Held, answers: &GivenAnswers<'_>)
     requires within_limits { (held.cameras ≤ max_cameras) × (held.views ≤ max_views) × (writer.old.used + listing_bytes ≤ length writer.old.bytes.now) }
     requires answers_hold { (first_needs held.cameras held.views ≤ length answers.now.transforms.now) × (second_needs held.cameras ≤ length answers.now.chains.now) }
     ensures { Puts writer.old (solved_text pose_fields held answers.now.transforms.now answers.now.chains.now) writer.new }

@@ -18,7 +18,7 @@ use averaging::average_isometries;
 use extrinsics::estimate_extrinsics_from_cam_target_poses;
 use limits::POSE_FLOATS;
 use placing::answer::LentAnswers;
-use record_words::{read_record, write_record};
+use record_words::{record_in, write_record};
 use refusal::Refusal;
 use root::sqrt;
 use session::{obey, wrong_length};
@@ -89,7 +89,7 @@ pub fn placer_step(
 ) -> u64
     ensures { Stepped session.old stream.now at buffer.old transforms.old chains.old result next.new session.new buffer.new transforms.new chains.new }
 {
-    let Some(record) = read_record(session) else {
+    let Some(record) = record_in(session) else {
         *next = stream.len();
         return refusal_code(wrong_length(stream.len()));
     };
@@ -117,7 +117,7 @@ fn keep_record(reply: Result<Done, Refusal>, session: Session, words: &mut [u64]
 pub fn placer_shared(session: &[u64], first: u8, second: u8) -> u64
     ensures { result ≡ shared_reply session.now first second }
 {
-    let Some(record) = read_record(session) else {
+    let Some(record) = record_in(session) else {
         return refusal_code(Refusal::WrongLength);
     };
     answer_code(shared_views(record, first, second))

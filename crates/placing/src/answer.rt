@@ -22,6 +22,25 @@ pub struct LentAnswers<'a> {
     pub chains: &'a mut [u8],
 }
 
+// The same two lent to be read, which is all that a check of their lengths or a listing asks for.
+#[derive(Clone, Copy)]
+pub struct GivenAnswers<'a> {
+    pub transforms: &'a [f64],
+    pub chains: &'a [u8],
+}
+
+impl LentAnswers<'_> {
+    pub fn given(&self) -> GivenAnswers<'_>
+        ensures transforms { result.transforms.now ≡ self.now.transforms.now }
+        ensures chains { result.chains.now ≡ self.now.chains.now }
+    {
+        GivenAnswers {
+            transforms: self.transforms,
+            chains: self.chains,
+        }
+    }
+}
+
 // Each camera's seven numbers go into the part of the answer that begins at 7 times its index.
 #[tactic(auto, unfolding(lists::specs::Lists::gather))]
 pub(crate) fn write_cameras(

@@ -28,7 +28,7 @@ const BYTE: u64 = 256;
 
 // A length that fits, and words for the sizes, the reference and the entries that are bytes.
 #[tactic(auto, unfolding(crate::specs::Words::is_record))]
-fn is_record(words: &[u64]) -> bool
+pub fn is_record(words: &[u64]) -> bool
     ensures { result ≡ is_record words.now }
 {
     words.len() == RECORD_WORDS
@@ -53,14 +53,15 @@ fn has_byte_entries(words: &[u64]) -> bool
 
 // The record that the words are; none where a word or the length does not fit one.
 #[tactic(auto, using(crate::proofs::Records::is_record_words), unfolding(crate::specs::Words::record_in))]
-pub fn read_record(words: &[u64]) -> Option<Session>
+pub fn record_in(words: &[u64]) -> Option<Session>
     ensures { result ≡ record_in words.now }
 {
-    is_record(words).then(|| session_in(words))
+    is_record(words).then(|| read_record(words))
 }
 
+// The record that words are, which are one.
 // Kept: the masks taken out in one piece: where they are copied into an array of zeros, the record is copied five times more on its way, 400 instructions a call.
-fn session_in(words: &[u64]) -> Session
+pub fn read_record(words: &[u64]) -> Session
     requires { ReadableWords words.now }
     ensures { result ≡ session_in words.now }
 {

@@ -48,10 +48,10 @@ const TURNS: u64 = 3;
 pub fn sqrt(x: f64) -> f64
     ensures { (result ≡ root_of x) × IsRootOf x result }
 {
-    if 0.0 < x && x < f64::INFINITY {
-        f64::from_bits(root_bits(x.to_bits()))
-    } else if x < 0.0 {
+    if x < 0.0 {
         f64::NAN
+    } else if 0.0 < x && x < f64::INFINITY {
+        f64::from_bits(root_bits(x.to_bits()))
     } else {
         // A NaN, a zero or +infinity.
         x

@@ -3,7 +3,7 @@ ghost use Rattle.std.specs.Prelude.{◌<◌, ◌≡◌, length, None};
 ghost use Rattle.command.specs.Command.{parse};
 ghost use Rattle.session_record.specs.Session.{session_of};
 ghost use Rattle.session.specs.Call.{call_refusal, read};
-ghost use Rattle.session_commands.specs.Inner.Turns.{turn_result};
+ghost use Rattle.session_commands.specs.Inner.Turns.{turn, turn_result};
 ghost use Rattle.session_commands.specs.Lent.{state_in};
 ghost use Rattle.placing.specs.Lent.{SameAnswers};
 
@@ -19,28 +19,26 @@ use session_commands::withdraw::obey_withdraw;
 use session_record::Held;
 use shared_counts::SUMMARY_ENTRIES;
 
-// The command at an offset before the end: 10, 11, or what the command itself does. The summary is changed where it stands.
+// The command at an offset before the end: 10, 11, or what the command itself does. What is held and the summary are changed where they stand.
 #[tactic(auto, using(crate::proofs::PassedCalls::call_passed, session_commands::proofs::PossibleRecords::record_parts), unfolding(crate::specs::Call::read))]
 pub fn obey_command(
-    held: Held,
+    held: &mut Held,
     stream: &[u8],
     at: usize,
     shared: &mut [u8; SUMMARY_ENTRIES],
     buffer: &mut [f64],
     answers: &mut LentAnswers<'_>,
 ) -> Turn
-    requires { (call_refusal (state_in (session_of held shared.old) buffer.old answers.old) stream.now at ≡ None) × (at < length stream.now) }
-    ensures obeyed { turn_result result shared.new buffer.new answers.new.transforms.now answers.new.chains.now ≡ read (state_in (session_of held shared.old) buffer.old answers.old) stream.now at (parse stream.now at) }
+    requires { (call_refusal (state_in (session_of held.old shared.old) buffer.old answers.old) stream.now at ≡ None) × (at < length stream.now) }
+    ensures obeyed { turn_result (turn held.new result.reply result.next) shared.new buffer.new answers.new.transforms.now answers.new.chains.now ≡ read (state_in (session_of held.old shared.old) buffer.old answers.old) stream.now at (parse stream.now at) }
     ensures same { SameAnswers answers.old answers.new }
 {
     match parse(stream, at) {
         Err(ParseError::Unknown(byte)) => Turn {
-            held,
             reply: Err(Refusal::UnknownCommand(u32::from(byte))),
             next: stream.len(),
         },
         Err(ParseError::Broken) => Turn {
-            held,
             reply: Err(Refusal::Truncated(at as u32)),
             next: stream.len(),
         },
@@ -59,13 +57,12 @@ pub fn obey_command(
                 ),
                 Kind::Solve => {
                     return Turn {
-                        held,
-                        reply: obey_solve(held, buffer, answers),
+                        reply: obey_solve(*held, buffer, answers),
                         next,
                     };
                 }
             };
-            Turn::edited(held, edit, next)
+            Turn::edited(edit, next)
         }
     }
 }

@@ -5,6 +5,7 @@
 ghost use Rattle.std.specs.Prelude.{◌≡◌, cond, ltb};
 ghost use Rattle.refusal.specs.declared.Refusal.TheVariants.{TooLong, WrongLength};
 ghost use Rattle.inputs.specs.Inputs.{checked_of};
+ghost use Rattle.session_commands.specs.Obeyed.{state};
 ghost use Rattle.session_commands.specs.Lent.{state_in};
 ghost use Rattle.placing.specs.Lent.{SameAnswers};
 ghost use Rattle.session.specs.Call.{max_stream, call_refusal, Called};
@@ -13,7 +14,7 @@ pub mod commands;
 
 use crate::commands::obey_command;
 use limits::{CHAIN_BYTES, MAX_CAMERAS, MAX_VIEWS, POSE_FLOATS};
-use placing::answer::LentAnswers;
+use placing::answer::{GivenAnswers, LentAnswers};
 use refusal::Refusal;
 pub use session_commands::{Done, Turn};
 use session_record::check::is_possible;
@@ -53,9 +54,9 @@ pub fn check_call(
     stream: &[u8],
     at: usize,
     buffer: &[f64],
-    answers: &LentAnswers<'_>,
+    answers: &GivenAnswers<'_>,
 ) -> Result<(), Refusal>
-    ensures { result ≡ checked_of (call_refusal (state_in session.now buffer.now answers.now) stream.now at) }
+    ensures { result ≡ checked_of (call_refusal (state session.now buffer.now answers.now.transforms.now answers.now.chains.now) stream.now at) }
 {
     let end = stream.len();
     if MAX_STREAM < end {
@@ -88,7 +89,7 @@ pub fn obey(
     ensures same { SameAnswers answers.old answers.new }
 {
     let end = stream.len();
-    if let Err(refusal) = check_call(&session, stream, at, buffer, answers) {
+    if let Err(refusal) = check_call(&session, stream, at, buffer, &answers.given()) {
         return Step {
             session,
             reply: Err(refusal),
@@ -102,17 +103,11 @@ pub fn obey(
             next: end,
         };
     }
+    let mut held = Held::from(session);
     let mut shared = session.shared;
-    let turn = obey_command(
-        Held::from(session),
-        stream,
-        at,
-        &mut shared,
-        buffer,
-        answers,
-    );
+    let turn = obey_command(&mut held, stream, at, &mut shared, buffer, answers);
     Step {
-        session: turn.held.with_summary(shared),
+        session: held.with_summary(shared),
         reply: turn.reply,
         next: turn.next,
     }

@@ -29,7 +29,7 @@ module _ (mask view : ℕ) (h : view < 64) where
       ap (bit_xor mask) (one_shl view 64 h) ∙ omega (arith, xor_add_and mask (2 ^ view))
 
 module _ (masks : List ℕ) (camera view : ℕ) (inside : camera < length masks) where
-  abbrev with_view : List ℕ
+  abbrev pub with_view : List ℕ
   with_view = set masks camera (get_or masks camera 0 + 2 ^ view)
 
   -- The view taken away again.

@@ -27,9 +27,9 @@ impl NamedCell {
 
     // 21, then 12.
     #[tactic(auto, using(crate::proofs::PossibleRecords::held_within), unfolding(refusal::specs::Table::refuse_if, refusal::specs::Table::first_of))]
-    pub(crate) fn check(self, held: Held) -> Result<Cell, Refusal>
-        requires { possible_held held ≡ true }
-        ensures { CheckedCell self (first_of (cell_checks held self.view self.camera)) result }
+    pub(crate) fn check(self, held: &Held) -> Result<Cell, Refusal>
+        requires { possible_held held.now ≡ true }
+        ensures { CheckedCell self (first_of (cell_checks held.now self.view self.camera)) result }
     {
         if held.views == 0 {
             return Err(Refusal::NoSize);
@@ -45,8 +45,8 @@ impl NamedCell {
 }
 
 #[tactic(auto, using(std::proofs::lemmas::Nat::Bits::shr_and_one), unfolding(lists::specs::Masks::in_mask))]
-pub(crate) fn is_held(held: Held, cell: Cell) -> bool
-    ensures { result ≡ in_mask (get_or held.masks cell.camera 0) cell.view }
+pub(crate) fn is_held(held: &Held, cell: Cell) -> bool
+    ensures { result ≡ in_mask (get_or held.now.masks cell.camera 0) cell.view }
 {
     (held.masks[usize::from(cell.camera)] >> cell.view) & 1 == 1
 }

@@ -1,4 +1,4 @@
-// What each command of a stream does, a file a command: what is held before it comes in, and what is held after it, or why it is refused, goes out.
+// What each command of a stream does, a file a command: it is lent what is held, and changes it there, or answers why it is refused.
 
 #![tactic(auto)]
 
@@ -11,7 +11,6 @@ pub mod solve;
 pub mod withdraw;
 
 use refusal::Refusal;
-use session_record::Held;
 
 // What a call of `session` did; a command never answers End.
 #[derive(Clone, Copy, Debug, PartialEq, Eq)]
@@ -24,34 +23,29 @@ pub enum Done {
     Solved,
 }
 
-// What a command hands on: the reply, what is held after it, and the offset of the next command.
-// Kept: the summary lent beside what is held, here and in what commands are handed: within it, each command of a whole stream would copy it.
-// Kept: beside `Step` of `session`, whose record has the summary: of one type for both, no clause would say which of the two it speaks of.
+// What a command hands on: the reply, and the offset of the next command. What is held, and the summary beside it, are changed where they stand: within this,
+// each command of a whole stream would copy them.
 #[derive(Clone, Copy)]
 pub struct Turn {
-    pub held: Held,
     pub reply: Result<Done, Refusal>,
     pub next: usize,
 }
 
 impl Turn {
-    ghost use Rattle.session_commands.specs.Inner.Turns.{edit_turn};
+    ghost use Rattle.std.specs.Prelude.{ℕ};
+    ghost use Rattle.session_record.specs.declared.Held.{Held};
+    ghost use Rattle.session_commands.specs.Inner.Turns.{turn, edit_turn};
 
-    // A command that edits what is held was obeyed, or refused: then what is held stays as it is.
-    pub fn edited(held: Held, edit: Result<Held, Refusal>, next: usize) -> Turn
-        ensures { result ≡ edit_turn held edit next }
+    // A command that edits what is held was obeyed, or refused.
+    pub fn edited(edit: Result<(), Refusal>, next: usize) -> Turn
+        ensures { (h : Held) → turn h result.reply result.next ≡ edit_turn h edit next }
     {
-        match edit {
-            Ok(after) => Turn {
-                held: after,
-                reply: Ok(Done::Accepted),
-                next,
+        Turn {
+            reply: match edit {
+                Ok(()) => Ok(Done::Accepted),
+                Err(refusal) => Err(refusal),
             },
-            Err(refusal) => Turn {
-                held,
-                reply: Err(refusal),
-                next,
-            },
+            next,
         }
     }
 }

@@ -19,17 +19,14 @@ use shared_counts::{Cell, SUMMARY_ENTRIES, add_view};
 
 // One cell more, which is not held yet, and one view more in the summary.
 #[tactic(auto, using(std::proofs::lemmas::Grind::common_steps, crate::proofs::HeldViews::set_by_or, crate::proofs::HeldViews::view_away), unfolding(crate::specs::Pose::held_after_pose))]
-fn hold(held: Held, cell: Cell, shared: &mut [u8; SUMMARY_ENTRIES]) -> Held
-    requires empty { in_mask (get_or held.masks cell.camera 0) cell.view ≡ false }
-    requires summed { shared.old ≡ summary_of held.masks }
-    ensures held { result ≡ held_after_pose held cell.view cell.camera }
-    ensures summed { shared.new ≡ summary_of (held_after_pose held cell.view cell.camera).masks }
+fn hold(held: &mut Held, cell: Cell, shared: &mut [u8; SUMMARY_ENTRIES])
+    requires empty { in_mask (get_or held.old.masks cell.camera 0) cell.view ≡ false }
+    requires summed { shared.old ≡ summary_of held.old.masks }
+    ensures held { held.new ≡ held_after_pose held.old cell.view cell.camera }
+    ensures summed { shared.new ≡ summary_of (held_after_pose held.old cell.view cell.camera).masks }
 {
-    let camera = usize::from(cell.camera);
-    let mut masks = held.masks;
-    masks[camera] |= 1 << cell.view;
-    add_view(&masks, shared, cell);
-    held.with_masks(masks)
+    held.masks[usize::from(cell.camera)] |= 1 << cell.view;
+    add_view(&held.masks, shared, cell);
 }
 
 // A cell's seven floats, and no others.
@@ -45,14 +42,14 @@ fn store_pose(pose: Pose, cell: Cell, buffer: &mut [f64])
 // 21, then 12, 23 and 7. An accepted Pose sets one bit, counts its view and writes seven floats.
 #[tactic(auto, using(crate::proofs::PossibleRecords::record_parts), unfolding(crate::specs::Obeyed::obeyed, crate::specs::Pose::pose_command_refusal))]
 pub fn obey_pose(
-    held: Held,
+    held: &mut Held,
     stream: &[u8],
     at: usize,
     shared: &mut [u8; SUMMARY_ENTRIES],
     buffer: &mut [f64],
-) -> Result<Held, Refusal>
-    requires { (at + pose_width ≤ length stream.now) × (length buffer.old ≡ buffer_length) × (possible (session_of held shared.old) ≡ true) }
-    ensures { (f : List Float) (g : List ℕ) (next : ℕ) → turn_result (edit_turn held result next) shared.new buffer.new f g ≡ obeyed (state (session_of held shared.old) buffer.old f g) (edit (place_at stream.now at)) next }
+) -> Result<(), Refusal>
+    requires { (at + pose_width ≤ length stream.now) × (length buffer.old ≡ buffer_length) × (possible (session_of held.old shared.old) ≡ true) }
+    ensures { (f : List Float) (g : List ℕ) (next : ℕ) → turn_result (edit_turn held.new result next) shared.new buffer.new f g ≡ obeyed (state (session_of held.old shared.old) buffer.old f g) (edit (place_at stream.now at)) next }
 {
     let named = NamedCell {
         view: stream[at + 1],
@@ -68,5 +65,6 @@ pub fn obey_pose(
         ));
     };
     store_pose(pose, cell, buffer);
-    Ok(hold(held, cell, shared))
+    hold(held, cell, shared);
+    Ok(())
 }

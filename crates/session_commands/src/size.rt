@@ -12,8 +12,8 @@ use session_record::Held;
 
 // 22, then 1 to 3 as the direct call has them. The masks stay, and so their summary does.
 #[tactic(auto, unfolding(inputs::specs::Inputs::checked_of, crate::specs::Obeyed::obeyed))]
-pub fn obey_size(held: Held, views: u8, cameras: u8, reference: u8) -> Result<Held, Refusal>
-    ensures { (shared : List ℕ) (b f : List Float) (g : List ℕ) (next : ℕ) → shared ≡ summary_of held.masks → turn_result (edit_turn held result next) shared b f g ≡ obeyed (state (session_of held shared) b f g) (edit (size views cameras reference)) next }
+pub fn obey_size(held: &mut Held, views: u8, cameras: u8, reference: u8) -> Result<(), Refusal>
+    ensures { (shared : List ℕ) (b f : List Float) (g : List ℕ) (next : ℕ) → shared ≡ summary_of held.old.masks → turn_result (edit_turn held.new result next) shared b f g ≡ obeyed (state (session_of held.old shared) b f g) (edit (size views cameras reference)) next }
 {
     if held.views != 0 {
         return Err(Refusal::SizeAgain);
@@ -23,5 +23,6 @@ pub fn obey_size(held: Held, views: u8, cameras: u8, reference: u8) -> Result<He
         usize::from(cameras),
         usize::from(reference),
     )?;
-    Ok(held.with_sizes(views, cameras, reference))
+    *held = held.with_sizes(views, cameras, reference);
+    Ok(())
 }

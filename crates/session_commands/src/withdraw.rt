@@ -15,32 +15,30 @@ use shared_counts::{Cell, SUMMARY_ENTRIES, remove_view};
 
 // One cell fewer, which is held, and one view fewer in the summary.
 #[tactic(auto, using(crate::proofs::HeldViews::cleared_by_xor), unfolding(crate::specs::Withdraw::held_after_withdraw))]
-fn release(held: Held, cell: Cell, shared: &mut [u8; SUMMARY_ENTRIES]) -> Held
-    requires held { in_mask (get_or held.masks cell.camera 0) cell.view ≡ true }
-    requires summed { shared.old ≡ summary_of held.masks }
-    ensures held { result ≡ held_after_withdraw held cell.view cell.camera }
-    ensures summed { shared.new ≡ summary_of (held_after_withdraw held cell.view cell.camera).masks }
+fn release(held: &mut Held, cell: Cell, shared: &mut [u8; SUMMARY_ENTRIES])
+    requires held { in_mask (get_or held.old.masks cell.camera 0) cell.view ≡ true }
+    requires summed { shared.old ≡ summary_of held.old.masks }
+    ensures held { held.new ≡ held_after_withdraw held.old cell.view cell.camera }
+    ensures summed { shared.new ≡ summary_of (held_after_withdraw held.old cell.view cell.camera).masks }
 {
-    let camera = usize::from(cell.camera);
-    let mut masks = held.masks;
-    remove_view(&masks, shared, cell);
-    masks[camera] ^= 1 << cell.view;
-    held.with_masks(masks)
+    remove_view(&held.masks, shared, cell);
+    held.masks[usize::from(cell.camera)] ^= 1 << cell.view;
 }
 
 // 21, then 12 and 24. An accepted Withdraw clears one bit, counts its view no more and writes no float.
 #[tactic(auto, using(crate::proofs::PossibleRecords::record_parts), unfolding(crate::specs::Obeyed::obeyed, crate::specs::Withdraw::withdraw_command_refusal))]
 pub fn obey_withdraw(
-    held: Held,
+    held: &mut Held,
     named: NamedCell,
     shared: &mut [u8; SUMMARY_ENTRIES],
-) -> Result<Held, Refusal>
-    requires { possible (session_of held shared.old) ≡ true }
-    ensures { (b f : List Float) (g : List ℕ) (next : ℕ) → turn_result (edit_turn held result next) shared.new b f g ≡ obeyed (state (session_of held shared.old) b f g) (edit (withdraw named.view named.camera)) next }
+) -> Result<(), Refusal>
+    requires { possible (session_of held.old shared.old) ≡ true }
+    ensures { (b f : List Float) (g : List ℕ) (next : ℕ) → turn_result (edit_turn held.new result next) shared.new b f g ≡ obeyed (state (session_of held.old shared.old) b f g) (edit (withdraw named.view named.camera)) next }
 {
     let cell = named.check(held)?;
     if !is_held(held, cell) {
         return Err(Refusal::NotHeld(named.detail()));
     }
-    Ok(release(held, cell, shared))
+    release(held, cell, shared);
+    Ok(())
 }

@@ -25,9 +25,9 @@ fn has_possible_sizes(held: Held) -> bool
 // Whether no bit of the camera's mask is outside the sizes.
 // Kept: a test for 64 views, since `checked_shr` takes a call 65 instructions and 11 ns more, of 3,300 and 330 ns.
 #[tactic(auto, using(crate::proofs::PossibleRecords::below_power, crate::proofs::PossibleRecords::word_below_power))]
-fn mask_fits(held: Held, camera: usize) -> bool
+fn mask_fits(held: &Held, camera: usize) -> bool
     requires { camera < max_cameras }
-    ensures { result ≡ mask_fits held camera }
+    ensures { result ≡ mask_fits held.now camera }
 {
     let mask = held.masks[camera];
     if usize::from(held.cameras) <= camera {
@@ -36,8 +36,8 @@ fn mask_fits(held: Held, camera: usize) -> bool
     MAX_VIEWS <= usize::from(held.views) || mask >> held.views == 0
 }
 
-fn has_possible_masks(held: Held) -> bool
-    ensures { result ≡ possible_masks held }
+fn has_possible_masks(held: &Held) -> bool
+    ensures { result ≡ possible_masks held.now }
 {
     (0..MAX_CAMERAS).all(|camera| mask_fits(held, camera))
 }
@@ -49,6 +49,6 @@ pub fn is_possible(session: &Session) -> bool
 {
     let held = Held::from(*session);
     has_possible_sizes(held)
-        && has_possible_masks(held)
+        && has_possible_masks(&held)
         && is_summary(&session.masks, &session.shared)
 }

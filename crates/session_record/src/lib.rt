@@ -23,10 +23,8 @@ pub struct Session {
     pub shared: [u8; SUMMARY_ENTRIES],
 }
 
-// The record without its summary, which no answer goes by. Commands hand this on, and change the summary where it stands.
+// The record without its summary, which no answer goes by. Commands are lent both side by side, and change them where they stand.
 // Kept: four fields that `Session` has too: nested in it, each clause that speaks of a record would read `session.held.views`.
-// The masks stand last: in a `Result`, a refusal's detail takes the place of the first field, and with masks there each copy of them falls into parts that
-// stand across one another: a command of a whole stream then takes 84 ns, not 63.
 #[derive(Clone, Copy)]
 pub struct Held {
     pub views: u8,

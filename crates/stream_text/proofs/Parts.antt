@@ -20,9 +20,8 @@ use Rattle.command.specs.Command.{Parsed, complete, broken, unknown, parse}
 use Rattle.session_record.specs.Session.{held_of, session_of}
 use Rattle.session_commands.specs.Obeyed.{State, state, Result}
 use Rattle.session.specs.Call.{max_stream, call_refusal, read, call}
-use Rattle.session_commands.specs.Inner.Turns.{turn_result}
+use Rattle.session_commands.specs.Inner.Turns.{Turned, turn_result}
 use Rattle.session_record.specs.declared.Session.{Session}
-use Rattle.session_commands.specs.declared.Turn.{Turn}
 use Rattle.session.proofs.PassedCalls.{call_passed}
 use Rattle.session.proofs.Calling.{call-read}
 use Rattle.command.proofs.Decoding.{parse-complete}
@@ -227,7 +226,7 @@ module _ {p : Part} {t : State} {stream : List ℕ} {at used : ℕ} {old new : L
       ∙ ap (part t at) (append-nil g.said)
 
   -- The same from what the code's functions promise: the command obeyed, and its reply's text behind the others.
-  pub going_step : at < length stream → listing_bytes ≤ length new - used → (turn : Turn) (shared : List ℕ) (buffer first : List Float) (second new' : List ℕ) (used' : ℕ)
+  pub going_step : at < length stream → listing_bytes ≤ length new - used → (turn : Turned) (shared : List ℕ) (buffer first : List Float) (second new' : List ℕ) (used' : ℕ)
       → turn_result turn shared buffer first second ≡ read t stream at (parse stream at)
       → Put new used (written turn.reply turn.held first second (length new - used)) new' used'
       → Going p (state (session_of turn.held shared) buffer first second) stream turn.next used' old new'
@@ -244,7 +243,7 @@ module _ {p : Part} {t : State} {stream : List ℕ} {at used : ℕ} {old new : L
           ∙ written-call t stream at (length new - used)
           ∙ rw (le-leb listing_bytes (length new - used) holds)
 
-  pub going_advances : at < length stream → (turn : Turn) (shared : List ℕ) (buffer first : List Float) (second : List ℕ)
+  pub going_advances : at < length stream → (turn : Turned) (shared : List ℕ) (buffer first : List Float) (second : List ℕ)
       → turn_result turn shared buffer first second ≡ read t stream at (parse stream at) → at < turn.next
   going_advances h turn shared buffer first second obeyed =
       subst (λ (r : Result). at < r.next) (sym (obeyed ∙ sym (call-read t stream at g.passes (λ e. omega arith)))) (call_advances t stream at h)

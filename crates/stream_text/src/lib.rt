@@ -45,9 +45,8 @@ fn obey_commands(
     let mut held = Held::from(session);
     let mut at = at;
     while (at < stream.len()) & (LISTING_BYTES <= writer.room()) {
-        let turn = obey_command(held, stream, at, &mut shared, buffer, answers);
-        held = turn.held;
-        write_reply(turn.reply, held, answers, &mut writer);
+        let turn = obey_command(&mut held, stream, at, &mut shared, buffer, answers);
+        write_reply(turn.reply, held, &answers.given(), &mut writer);
         at = turn.next;
     }
     StreamText {
@@ -80,7 +79,7 @@ pub fn obey_stream(
             length: 0,
         };
     }
-    if let Err(refusal) = check_call(&session, stream, at, buffer, answers) {
+    if let Err(refusal) = check_call(&session, stream, at, buffer, &answers.given()) {
         let mut writer = Writer::new(text);
         write_refusal(refusal, &mut writer);
         return StreamText {

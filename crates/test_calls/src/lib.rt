@@ -38,7 +38,12 @@ pub fn print_calls<P: Print, F: FnMut(Step) -> io::Result<()>>(
         at = step.next;
         begin(step)?;
         let mut lines = Writer::new(&mut text);
-        write_reply(step.reply, Held::from(session), answers, &mut lines);
+        write_reply(
+            step.reply,
+            Held::from(session),
+            &answers.given(),
+            &mut lines,
+        );
         rt.write_all(lines.written())?;
         if stream.len() <= at {
             return Ok(session);

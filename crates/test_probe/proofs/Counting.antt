@@ -44,7 +44,7 @@ pub took_part : {t : State} {stream : List ℕ} {at : ℕ} {answer : StreamText}
 took_part o holds = took (round_of holds o) o.leaves.front.text_length
 
 module _ {t : State} {stream : List ℕ} {at : ℕ} {step : Step} {buffer first : List Float} {second : List ℕ} (called : Called t stream at step buffer first second) where
-  written-whole : {h : Held} → h ≡ held_of step.session → (room : ℕ) → listing_bytes ≤ room
+  pub written-whole : {h : Held} → h ≡ held_of step.session → (room : ℕ) → listing_bytes ≤ room
       → written step.reply h first second room ≡ printed_by (call t stream at)
   written-whole same room holds =
       rw (same, called.reply, called.session, called.first_after_is, called.second_after_is)

@@ -10,7 +10,7 @@ use placing::answer::LentAnswers;
 use putting::Writer;
 use session::obey;
 use session_record::{Held, Session};
-use stream_text::{StreamText, obey_stream};
+use stream_text::obey_stream;
 
 // The memory that a stream is obeyed in. Its text may hold any reply.
 #[derive(Drop)]
@@ -21,10 +21,17 @@ pub struct Memory<'a> {
     ghost holds_any: { listing_bytes ≤ length text.bytes.now },
 }
 
-// How a stream is obeyed: one step from an offset on, and how many bytes it printed.
+// The offset of the next command, and how many bytes were printed.
+#[derive(Clone, Copy)]
+pub struct Moved {
+    pub next: usize,
+    pub length: usize,
+}
+
+// How a stream is obeyed: one step from an offset on. The session is changed where it stands, so that its record is copied no more than the step itself does.
 pub trait Printing {
-    fn step(session: Session, stream: &[u8], at: usize, memory: &mut Memory<'_>) -> StreamText
-        ensures { Took (state_in session memory.old.buffer.now memory.old.answers) stream.now at (state_in result.session memory.new.buffer.now memory.new.answers) result.next result.length };
+    fn step(session: &mut Session, stream: &[u8], at: usize, memory: &mut Memory<'_>) -> Moved
+        ensures { Took (state_in session.old memory.old.buffer.now memory.old.answers) stream.now at (state_in session.new memory.new.buffer.now memory.new.answers) result.next result.length };
 }
 
 // By the whole-stream entry: each call puts its text at the front, over the last one's.
@@ -32,17 +39,22 @@ pub struct ByParts;
 
 impl Printing for ByParts {
     #[tactic(auto, using(crate::proofs::Counting::took_part))]
-    fn step(session: Session, stream: &[u8], at: usize, memory: &mut Memory<'_>) -> StreamText {
+    fn step(session: &mut Session, stream: &[u8], at: usize, memory: &mut Memory<'_>) -> Moved {
         let writer = &mut memory.text;
         let text = &mut *writer.bytes;
-        obey_stream(
-            session,
+        let part = obey_stream(
+            *session,
             stream,
             at,
             memory.buffer,
             &mut memory.answers,
             text,
-        )
+        );
+        *session = part.session;
+        Moved {
+            next: part.next,
+            length: part.length,
+        }
     }
 }
 
@@ -51,19 +63,18 @@ impl Printing for ByParts {
 pub struct ByCommands;
 
 impl Printing for ByCommands {
-    fn step(session: Session, stream: &[u8], at: usize, memory: &mut Memory<'_>) -> StreamText {
-        let step = obey(session, stream, at, memory.buffer, &mut memory.answers);
+    fn step(session: &mut Session, stream: &[u8], at: usize, memory: &mut Memory<'_>) -> Moved {
+        let step = obey(*session, stream, at, memory.buffer, &mut memory.answers);
+        *session = step.session;
         make_room(&mut memory.text);
         let from = memory.text.used;
         write_reply(
             step.reply,
             Held::from(step.session),
-            &memory.answers,
+            &memory.answers.given(),
             &mut memory.text,
         );
-        StreamText {
-            session: step.session,
-            refused: Ok(()),
+        Moved {
             next: step.next,
             length: memory.text.used - from,
         }
@@ -79,10 +90,9 @@ pub fn count_printed<P: Printing>(stream: &[u8], memory: &mut Memory<'_>) -> u64
     let mut at = 0usize;
     let mut count = 0u64;
     loop {
-        let part = P::step(session, stream, at, memory);
-        session = part.session;
-        at = part.next;
-        count = count.wrapping_add(part.length as u64);
+        let moved = P::step(&mut session, stream, at, memory);
+        at = moved.next;
+        count = count.wrapping_add(moved.length as u64);
         if stream.len() <= at {
             return count;
         }

@@ -7,7 +7,7 @@ ghost use Rattle.std.specs.Prelude.{◌≤◌, IfSome, length};
 
 use placing::answer::LentAnswers;
 use root::sqrt;
-use session::{FIRST_FLOATS, MAX_STREAM, SECOND_BYTES};
+use session::{FIRST_FLOATS, SECOND_BYTES};
 use session_record::BUFFER_FLOATS;
 use std::io;
 use std::io::Read;
@@ -18,6 +18,11 @@ use test_calls::print_calls;
 const HEADER_BYTES: usize = 256;
 
 const WORD_BYTES: usize = 8;
+
+// More streams, and longer ones, than any sample has: what comes behind so many, or from a longer one on, is not replayed.
+const MOST_STREAMS: usize = 65536;
+
+const MOST_STREAM: usize = 4096;
 
 // The pattern that stands for every NaN, and the bit of a double's sign.
 const NAN: u64 = 0x7ff8_0000_0000_0000;
@@ -31,22 +36,23 @@ fn main(rt: HostRuntime) -> io::Result<()> {
     let mut header = [0u8; HEADER_BYTES];
     let _whole = input.read_exact(&mut header);
     rt.write_all(&header)?;
-    let roots = next_word(&mut input).unwrap_or(0);
+    let roots = next_word(&mut input);
     replay_roots(&rt, &mut input, roots)?;
-    let mut stream = [0u8; MAX_STREAM];
+    let mut stream = [0u8; MOST_STREAM];
     replay_streams(&rt, &mut input, &mut stream)
 }
 
-// The next number of the sample, where there is one.
-fn next_word<R: Read>(input: &mut R) -> Option<u64> {
+// The next number of the sample, and 0 where there is none: of one that the sample breaks off in, the bytes that are there count.
+// Kept: a number and no Option, which would lose those bytes.
+fn next_word<R: Read>(input: &mut R) -> u64 {
     let mut bytes = [0u8; WORD_BYTES];
-    input.read_exact(&mut bytes).ok()?;
-    Some(u64::from_le_bytes(bytes))
+    let _whole = input.read_exact(&mut bytes);
+    u64::from_le_bytes(bytes)
 }
 
 fn replay_roots<P: Print, R: Read>(rt: &P, input: &mut R, count: u64) -> io::Result<()> {
     for _ in 0..count {
-        let word = next_word(input).unwrap_or(0);
+        let word = next_word(input);
         let root = root_of_pattern(word);
         println!(rt; "{word:016x} {root:016x}")?;
     }
@@ -66,7 +72,7 @@ fn pattern_of(x: f64) -> u64 {
 
 fn replay_streams<P: Print, R: Read>(rt: &P, input: &mut R, memory: &mut [u8]) -> io::Result<()> {
     // Kept: a counted loop: nothing tells how much an input still holds, so that a `loop` has no measure.
-    for _ in 0..u64::MAX {
+    for _ in 0..MOST_STREAMS {
         let Some(length) = next_stream(input, memory) else {
             return Ok(());
         };
@@ -80,7 +86,7 @@ fn replay_streams<P: Print, R: Read>(rt: &P, input: &mut R, memory: &mut [u8]) -
 fn next_stream<R: Read>(input: &mut R, memory: &mut [u8]) -> Option<usize>
     ensures { IfSome result (λ bytes. bytes ≤ length memory.new) }
 {
-    let length = next_word(input)? as usize;
+    let length = next_word(input) as usize;
     if (length == 0) | (memory.len() < length) {
         return None;
     }

@@ -20,7 +20,7 @@ pub loop-at-preserved : goal.loop-at-preserved
 loop-at-preserved c =
     let l = c.loop-at in
     let (left, holds) = test_goes_on l.at (length c.args.stream.now) c.room.result c.loop-at-test.true in (
-      going_step l.invariant.0 left (omega (arith, holds, c.room.ensures)) _ _ _ _ _ _ _ c.obey_command-turn.ensures.obeyed c.write_reply.ensures.put,
+      going_step l.invariant.0 left (omega (arith, holds, c.room.ensures)) _ _ _ _ _ _ _ c.obey_command-turn.ensures.obeyed (rw (c.given.ensures.transforms, c.given.ensures.chains) at c.write_reply.ensures.put),
       search rules,
       search rules,
     )

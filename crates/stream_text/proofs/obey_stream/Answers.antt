@@ -30,7 +30,7 @@ returns-in-Err-clause-obeyed c =
     let a = c.args in
     let t = state_in a.session a.buffer.now a.answers.now in
     let holds = c.if-text-lt-LISTING_BYTES.false in
-    let refused = checked_of-refused _ _ (sym c.check_call.ensures ∙ c.in-Err.is) in
+    let refused = checked_of-refused _ _ (sym (rw (c.given.ensures.transforms, c.given.ensures.chains) at c.check_call.ensures) ∙ c.in-Err.is) in
     record {
       refused = sym (ap checked_of (text_refusal-holds t a.stream.now a.at (length a.text.now) holds));
       leaves =
@@ -40,7 +40,7 @@ returns-in-Err-clause-obeyed c =
     }
 
 pub obey_commands-requires : goal.obey_commands-requires
-obey_commands-requires c = checked_of_passed _ (sym c.check_call.ensures ∙ c.in_default.is)
+obey_commands-requires c = checked_of_passed _ (sym (rw (c.given.ensures.transforms, c.given.ensures.chains) at c.check_call.ensures) ∙ c.in_default.is)
 
 pub returns-clause-obeyed : goal.returns-clause-obeyed
 unfolding checked_of
@@ -48,7 +48,7 @@ returns-clause-obeyed c =
     let a = c.args in
     let t = state_in a.session a.buffer.now a.answers.now in
     let holds = c.if-text-lt-LISTING_BYTES.false in
-    let passed = checked_of_passed _ (sym c.check_call.ensures ∙ c.in_default.is) in
+    let passed = checked_of_passed _ (sym (rw (c.given.ensures.transforms, c.given.ensures.chains) at c.check_call.ensures) ∙ c.in_default.is) in
     record {
       refused = c.obey_commands.ensures.passed ∙ sym (ap checked_of (text_refusal-holds t a.stream.now a.at (length a.text.now) holds));
       leaves = leaves_same (sym (part_in_passes t a.stream.now a.at (length a.text.now) holds passed)) c.obey_commands.ensures.leaves;

@@ -11,6 +11,6 @@ use Rattle.session_record.proofs.check.has_possible_masks.Goals as goal
 
 pub returns : goal.returns
 returns c =
-    let test = mask_fits c.args.held in
+    let test = mask_fits c.args.held.now in
     all_from_yields_List test _ _ _ c.all.ensures.ran (YieldsList-from_range 0 max_cameras max_cameras refl refl) (λ x b q k. search (rules, tests))
     ∙ all_in_range test max_cameras

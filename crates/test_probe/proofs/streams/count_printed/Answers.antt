@@ -4,4 +4,4 @@ use Rattle.test_probe.proofs.streams.count_printed.Goals as goal
 
 pub returns-then-stream-at : goal.returns-then-stream-at
 returns-then-stream-at g c =
-    ap (λ (n : ℕ). (c.loop-at.count + n) % 2 ^ 64) (c.step-part.ensures.ends c.if-stream-at.true) ∙ c.loop-at.invariant
+    ap (λ (n : ℕ). (c.loop-at.count + n) % 2 ^ 64) (c.step-moved.ensures.ends c.if-stream-at.true) ∙ c.loop-at.invariant

@@ -1,9 +1,9 @@
--- `session_in` meets its contract: the masks are copied, and each entry is read from its word. Assumes nothing.
+-- `read_record` meets its contract: the masks are copied, and each entry is read from its word. Assumes nothing.
 use borrow.Author.Rules.{rules}
 use native.Mathlib.Omega.{arith}
 use Rattle.record_words.specs.Words.{shared_word}
 use Rattle.record_words.proofs.Records.{part_made}
-use Rattle.record_words.proofs.session_in.Goals as goal
+use Rattle.record_words.proofs.read_record.Goals as goal
 
 pub returns : goal.returns
 returns c =
